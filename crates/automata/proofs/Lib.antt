@@ -1,0 +1,7 @@
+pub mod Tests
+pub mod Lists
+pub mod Runs
+pub mod Classes
+pub mod Nearness
+pub mod Lengths
+pub mod Folding

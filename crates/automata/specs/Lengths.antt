@@ -1,0 +1,69 @@
+-- Distance and depth as functions that compute.
+use mathlib.Core.Bool.{Bool, true, false, _&&_, cond}
+use Prim.Native.Nat.{ℕ, zero, suc, _+_, _-_, _≤_, _<_}
+use lib.Dec.{eqb, ltb}
+use Rattle.automata.specs.Runs.{Events, Machine, Len, len, endless}
+
+-- The test holds of every number below n.
+unfoldable pub every : ℕ → (ℕ → Bool) → Bool
+every zero f = true
+every (suc n) f = f n && every n f
+
+-- The least number from i on, of n numbers, that passes the test; endless if none does.
+unfoldable pub least : (ℕ → Bool) → ℕ → ℕ → Len
+least f zero i = endless
+least f (suc n) i = elim (f i) [ true ↦ len i | false ↦ least f n (suc i) ]
+
+-- `base` holds of rows q and p, and of those that any j or fewer events picked by `light` lead to.
+unfoldable pub rounds : Events → Machine → (ℕ → ℕ → Bool) → (ℕ → Bool) → ℕ → ℕ → ℕ → Bool
+rounds E M base light zero q p = base q p
+rounds E M base light (suc j) q p =
+    base q p && every (E .count) (λ a. elim (light a) [ true ↦ rounds E M base light j (M .target q a) (M .target p a) | false ↦ true ])
+
+-- No run of size L or more tells q from p, as far as c events without weight between two with weight can show.
+unfoldable pub near : Events → Machine → ℕ → ℕ → ℕ → ℕ → Bool
+near E M c zero = rounds E M (λ q p. eqb (M .mark q) (M .mark p)) (λ a. true) c
+near E M c (suc L) =
+    rounds E M (λ q p. every (E .count) (λ a. elim (eqb (E .weight a) 0) [ true ↦ true | false ↦ near E M c L (M .target q a) (M .target p a) ]))
+    (λ a. eqb (E .weight a) 0) c
+
+-- The distance of two rows: the least L with `near`, which is below the number of rows or not at all.
+unfoldable pub distance : Events → Machine → ℕ → ℕ → Len
+distance E M q p = least (λ L. near E M (M .rows) L q p) (M .rows) 0
+
+-- Two machines beside one another: the rows of N follow those of M.
+abbrev pub beside : Machine → Machine → Machine
+beside M N = record {
+  rows = M .rows + N .rows;
+  start = M .start;
+  target = λ q a. cond (ltb q (M .rows)) (M .target q a) (M .rows + N .target (q - M .rows) a);
+  mark = λ q. cond (ltb q (M .rows)) (M .mark q) (N .mark (q - M .rows));
+}
+
+-- M with row q marked alone, and a machine that never leaves its one row, which has no mark.
+abbrev pub only : Machine → ℕ → Machine
+only M q = record { rows = M .rows; start = M .start; target = M .target; mark = λ r. cond (eqb r q) 1 0 }
+
+abbrev pub still : Machine
+still = record { rows = 1; start = 0; target = λ q a. 0; mark = λ q. 0 }
+
+-- The least size from which on no run leads from the start to q: one more than the depth of q, and 0 if q is unreached.
+-- It is the distance of the start from a row that leads nowhere, where q alone is marked.
+unfoldable pub lead : Events → Machine → ℕ → Len
+lead E M q = distance E (beside (only M q) still) (M .start) (M .rows)
+
+abbrev pub isZero : Len → Bool
+isZero (len L) = eqb L 0
+isZero endless = false
+
+abbrev pub oneLess : Len → Len
+oneLess (len L) = len (L - 1)
+oneLess endless = endless
+
+-- Whether no run leads from the start to q.
+unfoldable pub unreached : Events → Machine → ℕ → Bool
+unreached E M q = isZero (lead E M q)
+
+-- The depth of a row; 0 for one that is unreached.
+unfoldable pub depth : Events → Machine → ℕ → Len
+depth E M q = oneLess (lead E M q)

@@ -1,0 +1,113 @@
+-- "The rules of reduction", in document 01's order.
+use mathlib.Core.Bool.{Bool, true, false, not, _&&_, _||_}
+use mathlib.Core.List.{List, [], _∷_, _++_, map}
+use Prim.Native.Nat.{ℕ, zero, suc, _+_, _*_, _/_, _%_, min}
+use lib.Dec.{eqb, leb}
+use lib.ListN.{length, getD}
+use Rattle.automata.specs.Runs.{Events, Machine, Len, len, endless}
+use Rattle.automata.specs.Lengths.{distance, depth, unreached}
+use Rattle.tables.specs.Table.{Table, machine, eventsOf, pack}
+use Rattle.tables.specs.Lists.{tabulate, filter, some, first, place, sift}
+
+-- An offset: a number from 0 to 65,535, or none.
+pub data Offset : Type 0 where
+  offset : ℕ → Offset
+  none : Offset
+
+-- A depth as a number: an endless one is replaced by k.
+abbrev pub replaced : ℕ → Len → ℕ
+replaced k (len d) = d
+replaced k endless = k
+
+abbrev pub finite : Len → Bool
+finite (len d) = true
+finite endless = false
+
+-- "Similar", of rows at the given distance and of depths d and e.
+unfoldable pub similarBy : Offset → Len → Len → Len → Bool
+similarBy (offset k) (len L) d e = leb (L + min k (min (replaced k d) (replaced k e))) k
+similarBy (offset k) endless d e = false
+similarBy none (len L) d e = eqb L 0 || (finite d || finite e)
+similarBy none endless d e = false
+
+abbrev pub sameLen : Len → Len → Bool
+sameLen (len d) (len e) = eqb d e
+sameLen (len d) endless = false
+sameLen endless (len e) = false
+sameLen endless endless = true
+
+-- What becomes of a given row: kept as a new row, folded into a given row, or unreached.
+pub data Fate : Type 0 where
+  keptAs : ℕ → Fate
+  foldedInto : ℕ → Fate
+  lost : Fate
+
+-- A row's record.
+pub record Record : Type 0 where
+  pub depth : Len
+  pub fate : Fate
+
+module _ (E : Events) (M : Machine) where
+  -- The reached rows of depth d, lower numbers first.
+  unfoldable pub level : Len → List ℕ
+  level d = filter (λ q. not (unreached E M q) && sameLen (depth E M q) d) (tabulate (M .rows) (λ q. q))
+
+  -- The levels below d, the deepest first.
+  unfoldable pub levels : ℕ → List ℕ
+  levels zero = []
+  levels (suc d) = level (len d) ++ levels d
+
+  -- The reached rows by falling depth, endless first, equal depths by lower row number.
+  unfoldable pub order : List ℕ
+  order = level endless ++ levels (M .rows)
+
+  module _ (k : Offset) where
+    unfoldable pub similar : ℕ → ℕ → Bool
+    similar q p = similarBy k (distance E M q p) (depth E M q) (depth E M p)
+
+    -- Each row in turn is kept if it is similar to no row kept so far.
+    unfoldable pub kept : List ℕ
+    kept = sift similar [] order
+
+    -- Otherwise it folds into the first kept row to which it is similar; a kept row is its own.
+    unfoldable pub fold : ℕ → ℕ
+    fold q = first (similar q) q kept
+
+    -- The rows met from the start, breadth first and lower events first, once the first i of them have been gone through.
+    unfoldable pub met : ℕ → List ℕ
+    met zero = fold (M .start) ∷ []
+    met (suc i) =
+        let l = met i in
+        sift eqb l (tabulate (E .count) (λ a. fold (M .target (getD l i (fold (M .start))) a)))
+
+    -- The kept rows in the order of their new numbers.
+    unfoldable pub numbering : List ℕ
+    numbering = met (M .rows)
+
+    -- The new number of the row that q folds into.
+    unfoldable pub number : ℕ → ℕ
+    number q = place (fold q) numbering
+
+    unfoldable pub fateOf : ℕ → Fate
+    fateOf q = elim (unreached E M q) [
+      | true ↦ lost
+      | false ↦ elim (some (eqb q) kept) [ true ↦ keptAs (number q) | false ↦ foldedInto (fold q) ]
+    ]
+
+-- The reduced table: the kept rows with their own marks, each target replaced by the row it folds into. The new start is 0.
+unfoldable pub reduced : (ℕ → ℕ) → Offset → Table → Table
+reduced weight k T =
+    let E = eventsOf weight T in
+    let M = machine T in
+    let l = numbering E M k in
+    record {
+      rows = length l;
+      events = T .events;
+      start = 0;
+      cells = tabulate (length l * T .events) (λ c. number E M k (M .target (getD l (c / T .events) 0) (c % T .events)));
+      marks = pack (map (M .mark) l);
+    }
+
+-- The records of the given rows.
+unfoldable pub records : (ℕ → ℕ) → Offset → Table → List Record
+records weight k T = tabulate (T .rows) (λ q. record { depth = depth (eventsOf weight T) (machine T) q; fate = fateOf (eventsOf weight T) (machine T) k q })
