@@ -1,1 +1,6 @@
-mod Try
+pub mod Lists
+pub mod Marks
+pub mod Similar
+pub mod Folds
+pub mod Numbering
+pub mod Reduced

@@ -1,29 +1,14 @@
 -- Packed marks: what `pack` writes, `markOf` reads back.
-use mathlib.Core.Path.{_≡_, refl, sym, ap}
+use mathlib.Core.Path.{_≡_}
 use mathlib.Core.List.{List, [], _∷_}
-use Prim.Native.Nat.{ℕ, zero, suc, _+_, _*_, _/_, _%_, _^_, _≤_, _<_, zero-le, suc-le-suc}
+use Prim.Native.Nat.{ℕ, zero, suc, _+_, _*_, _/_, _%_, _^_, _≤_, _<_, zero-le}
 use native.Mathlib.Nat.{zero-div, div-div-eq-div-mul, div-add-mod, pow-succ', lt-of-lt-of-le}
 use native.Mathlib.Omega.{arith}
 use lib.ListN.{length, getD, take, drop, length-take, drop-of-length-le}
 use lib.Seq.{getD-take, getD-drop}
 use lib.Pow.{pow-mono}
 use Rattle.tables.specs.Table.{markBytes, markOf, byteOf, pack}
-use Rattle.tables.specs.Lists.{tabulate}
-
-pub tabulate-length {ℓ} : {A : Type ℓ} (n : ℕ) (f : ℕ → A) → length (tabulate n f) ≡ n
-unfolding tabulate
-tabulate-length zero f = refl
-tabulate-length (suc n) f = ap suc (tabulate-length n (λ i. f (suc i)))
-
--- The list is read as f at every i, if f is d from n on.
-tabulate-all {ℓ} : {A : Type ℓ} (n : ℕ) (f : ℕ → A) (i : ℕ) (d : A) → (n ≤ i → f i ≡ d) → getD (tabulate n f) i d ≡ f i
-unfolding tabulate
-tabulate-all zero f i d out = sym (out zero-le)
-tabulate-all (suc n) f zero d out = refl
-tabulate-all (suc n) f (suc i) d out = tabulate-all n (λ j. f (suc j)) i d (λ h. out (suc-le-suc h))
-
-pub tabulate-at {ℓ} : {A : Type ℓ} (n : ℕ) (f : ℕ → A) (i : ℕ) (d : A) → i < n → getD (tabulate n f) i d ≡ f i
-tabulate-at n f i d h = tabulate-all n f i d (λ g. absurd (omega arith))
+use Rattle.tables.proofs.Lists.{tabulate-length, tabulate-all}
 
 pub mark-small : (marks : List ℕ) (r : ℕ) → markOf marks r ≤ 1
 mark-small marks r = omega arith

@@ -73,38 +73,42 @@ module _ (E : Events) (M : Machine) where
     unfoldable pub fold : ℕ → ℕ
     fold q = first (similar q) q kept
 
+  -- The new numbers, where f gives the kept row into which a row folds.
+  module _ (f : ℕ → ℕ) where
     -- The rows met from the start, breadth first and lower events first, once the first i of them have been gone through.
     unfoldable pub met : ℕ → List ℕ
-    met zero = fold (M .start) ∷ []
+    met zero = f (M .start) ∷ []
     met (suc i) =
         let l = met i in
-        sift eqb l (tabulate (E .count) (λ a. fold (M .target (getD l i (fold (M .start))) a)))
+        sift eqb l (tabulate (E .count) (λ a. f (M .target (getD l i (f (M .start))) a)))
 
     -- The kept rows in the order of their new numbers.
     unfoldable pub numbering : List ℕ
     numbering = met (M .rows)
 
-    -- The new number of the row that q folds into.
+    -- The new number of the row into which q folds.
     unfoldable pub number : ℕ → ℕ
-    number q = place (fold q) numbering
+    number q = place (f q) numbering
 
-    unfoldable pub fateOf : ℕ → Fate
-    fateOf q = elim (unreached E M q) [
-      | true ↦ lost
-      | false ↦ elim (some (eqb q) kept) [ true ↦ keptAs (number q) | false ↦ foldedInto (fold q) ]
-    ]
+-- What becomes of row q.
+unfoldable pub fateOf : Events → Machine → Offset → ℕ → Fate
+fateOf E M k q = elim (unreached E M q) [
+  | true ↦ lost
+  | false ↦ elim (some (eqb q) (kept E M k)) [ true ↦ keptAs (number E M (fold E M k) q) | false ↦ foldedInto (fold E M k q) ]
+]
 
 -- The reduced table: the kept rows with their own marks, each target replaced by the row it folds into. The new start is 0.
 unfoldable pub reduced : (ℕ → ℕ) → Offset → Table → Table
 reduced weight k T =
     let E = eventsOf weight T in
     let M = machine T in
-    let l = numbering E M k in
+    let f = fold E M k in
+    let l = numbering E M f in
     record {
       rows = length l;
       events = T .events;
       start = 0;
-      cells = tabulate (length l * T .events) (λ c. number E M k (M .target (getD l (c / T .events) 0) (c % T .events)));
+      cells = tabulate (length l * T .events) (λ c. number E M f (M .target (getD l (c / T .events) 0) (c % T .events)));
       marks = pack (map (M .mark) l);
     }
 

@@ -1,0 +1,318 @@
+-- Laws of the lists that the rules of reduction are written with.
+use mathlib.Core.Path.{_≡_, refl, sym, ap, subst, _∙_}
+use mathlib.Core.Bool.{Bool, true, false, _||_}
+use mathlib.Core.List.{List, [], _∷_, _++_, map, append-nil, append-assoc}
+use mathlib.Core.Logic.{_⊎_, inl, inr, _≢_}
+use Prim.Native.Nat.{ℕ, zero, suc, _+_, _≤_, _<_, zero-le, suc-le-suc}
+use native.Mathlib.Omega.{arith}
+use native.Mathlib.Decide.{decLe}
+use lib.Dec.{eqb}
+use borrow.Author.Tests.{eqb-true, eqb-false, eq-eqb, ne-eqb}
+use lib.ListN.{length, getD, List·getD-eq-default}
+use Rattle.automata.proofs.Tests.{either, clash, or-cases, or-left, or-right}
+use Rattle.automata.proofs.Lists.{Mem, Pairwise, Distinct, pigeonhole}
+use Rattle.tables.specs.Lists.{tabulate, filter, some, first, place, sift}
+
+-- ---- tabulate
+
+pub tabulate-length {ℓ} : {A : Type ℓ} (n : ℕ) (f : ℕ → A) → length (tabulate n f) ≡ n
+unfolding tabulate
+tabulate-length zero f = refl
+tabulate-length (suc n) f = ap suc (tabulate-length n (λ i. f (suc i)))
+
+-- The list is read as f at every i, if f is d from n on.
+pub tabulate-all {ℓ} : {A : Type ℓ} (n : ℕ) (f : ℕ → A) (i : ℕ) (d : A) → (n ≤ i → f i ≡ d) → getD (tabulate n f) i d ≡ f i
+unfolding tabulate
+tabulate-all zero f i d out = sym (out zero-le)
+tabulate-all (suc n) f zero d out = refl
+tabulate-all (suc n) f (suc i) d out = tabulate-all n (λ j. f (suc j)) i d (λ h. out (suc-le-suc h))
+
+pub tabulate-at {ℓ} : {A : Type ℓ} (n : ℕ) (f : ℕ → A) (i : ℕ) (d : A) → i < n → getD (tabulate n f) i d ≡ f i
+tabulate-at n f i d h = tabulate-all n f i d (λ g. absurd (omega arith))
+
+pub tabulate-same {ℓ} : {A : Type ℓ} (n : ℕ) (f g : ℕ → A) → ((i : ℕ) → i < n → f i ≡ g i) → tabulate n f ≡ tabulate n g
+unfolding tabulate
+tabulate-same zero f g h = refl
+tabulate-same (suc n) f g h = rw (h 0 (omega arith), tabulate-same n (λ i. f (suc i)) (λ i. g (suc i)) (λ i l. h (suc i) (omega arith)))
+
+-- ---- membership
+
+pub mem-left : (l m : List ℕ) (x : ℕ) → Mem x l → Mem x (l ++ m)
+mem-left [] m x h = absurd h
+mem-left (y ∷ l) m x (inl e) = inl e
+mem-left (y ∷ l) m x (inr h) = inr (mem-left l m x h)
+
+pub mem-right : (l m : List ℕ) (x : ℕ) → Mem x m → Mem x (l ++ m)
+mem-right [] m x h = h
+mem-right (y ∷ l) m x h = inr (mem-right l m x h)
+
+pub mem-cases : (l m : List ℕ) (x : ℕ) → Mem x (l ++ m) → Mem x l ⊎ Mem x m
+mem-cases [] m x h = inr h
+mem-cases (y ∷ l) m x (inl e) = inl (inl e)
+mem-cases (y ∷ l) m x (inr h) = elim (mem-cases l m x h) [ inl g ↦ inl (inr g) | inr g ↦ inr g ]
+
+pub mem-snoc : (l : List ℕ) (y x : ℕ) → Mem x (l ++ (y ∷ [])) → Mem x l ⊎ (x ≡ y)
+mem-snoc l y x h = elim (mem-cases l (y ∷ []) x h) [ inl g ↦ inl g | inr g ↦ elim g [ inl e ↦ inr e | inr n ↦ absurd n ] ]
+
+pub at-mem : (l : List ℕ) (i d : ℕ) → i < length l → Mem (getD l i d) l
+at-mem [] i d h = absurd (omega arith)
+at-mem (x ∷ l) zero d h = inl refl
+at-mem (x ∷ l) (suc i) d h = inr (at-mem l i d (omega arith))
+
+pub mem-at : (l : List ℕ) (x d : ℕ) → Mem x l → (i : ℕ) × (i < length l) × (getD l i d ≡ x)
+mem-at [] x d h = absurd h
+mem-at (y ∷ l) x d (inl e) = (0, omega arith, sym e)
+mem-at (y ∷ l) x d (inr h) = let r = mem-at l x d h in (suc (r .0), omega (arith, r .1), r .2)
+
+-- A member read with a member for the default.
+pub read-mem : (l : List ℕ) (i d : ℕ) → Mem d l → Mem (getD l i d) l
+read-mem l i d h = elim (decLe (length l) i) [
+  | yes g ↦ subst (λ (x : ℕ). Mem x l) (sym (List·getD-eq-default l d g)) h
+  | no g ↦ at-mem l i d (omega arith)
+]
+
+pub mem-tabulate : (n : ℕ) (f : ℕ → ℕ) (i : ℕ) → i < n → Mem (f i) (tabulate n f)
+unfolding tabulate
+mem-tabulate zero f i h = absurd (omega arith)
+mem-tabulate (suc n) f zero h = inl refl
+mem-tabulate (suc n) f (suc i) h = inr (mem-tabulate n (λ j. f (suc j)) i (omega arith))
+
+pub tabulate-mem : (n : ℕ) (f : ℕ → ℕ) (x : ℕ) → Mem x (tabulate n f) → (i : ℕ) × (i < n) × (x ≡ f i)
+unfolding tabulate
+tabulate-mem zero f x h = absurd h
+tabulate-mem (suc n) f x (inl e) = (0, omega arith, e)
+tabulate-mem (suc n) f x (inr h) = let r = tabulate-mem n (λ j. f (suc j)) x h in (suc (r .0), omega (arith, r .1), r .2)
+
+pub filter-mem : (f : ℕ → Bool) (l : List ℕ) (x : ℕ) → Mem x (filter f l) → Mem x l × (f x ≡ true)
+unfolding filter
+filter-mem f [] x h = absurd h
+filter-mem f (y ∷ l) x h = pick (f y) refl h (filter-mem f l x)
+  where
+    pick : (b : Bool) → f y ≡ b → Mem x (elim b [ true ↦ y ∷ filter f l | false ↦ filter f l ]) → (Mem x (filter f l) → Mem x l × (f x ≡ true)) → Mem x (y ∷ l) × (f x ≡ true)
+    pick true e (inl g) ih = (inl g, subst (λ (z : ℕ). f z ≡ true) (sym g) e)
+    pick true e (inr g) ih = (inr (ih g .0), ih g .1)
+    pick false e g ih = (inr (ih g .0), ih g .1)
+
+pub mem-filter : (f : ℕ → Bool) (l : List ℕ) (x : ℕ) → Mem x l → f x ≡ true → Mem x (filter f l)
+unfolding filter
+mem-filter f [] x h t = absurd h
+mem-filter f (y ∷ l) x h t = pick (f y) refl h (λ g. mem-filter f l x g t)
+  where
+    pick : (b : Bool) → f y ≡ b → Mem x (y ∷ l) → (Mem x l → Mem x (filter f l)) → Mem x (elim b [ true ↦ y ∷ filter f l | false ↦ filter f l ])
+    pick true e (inl g) ih = inl g
+    pick true e (inr g) ih = inr (ih g)
+    pick false e (inl g) ih = clash (subst (λ (z : ℕ). f z ≡ true) g t) e
+    pick false e (inr g) ih = ih g
+
+-- ---- tests of a list
+
+pub some-has : (f : ℕ → Bool) (l : List ℕ) → some f l ≡ true → (x : ℕ) × Mem x l × (f x ≡ true)
+unfolding some
+some-has f [] e = clash e refl
+some-has f (x ∷ l) e = pick (or-cases (f x) (some f l) e) (some-has f l)
+  where
+    pick : (f x ≡ true) ⊎ (some f l ≡ true) → (some f l ≡ true → (y : ℕ) × Mem y l × (f y ≡ true)) → (y : ℕ) × Mem y (x ∷ l) × (f y ≡ true)
+    pick (inl g) ih = (x, inl refl, g)
+    pick (inr g) ih = let r = ih g in (r .0, inr (r .1), r .2)
+
+pub has-some : (f : ℕ → Bool) (l : List ℕ) (x : ℕ) → Mem x l → f x ≡ true → some f l ≡ true
+unfolding some
+has-some f [] x h t = absurd h
+has-some f (y ∷ l) x (inl e) t = or-left (f y) (some f l) (subst (λ (z : ℕ). f z ≡ true) e t)
+has-some f (y ∷ l) x (inr h) t = or-right (f y) (some f l) (has-some f l x h t)
+
+pub none-has : (f : ℕ → Bool) (l : List ℕ) → some f l ≡ false → (x : ℕ) → Mem x l → f x ≡ false
+none-has f l e x h = elim (either (f x)) [ inl t ↦ clash (has-some f l x h t) e | inr t ↦ t ]
+
+-- ---- lists whose members stand in a relation
+
+module _ (R : ℕ → ℕ → Type 0) where
+  pub pairwise-append : (l m : List ℕ) → Pairwise R l → Pairwise R m → ((x y : ℕ) → Mem x l → Mem y m → R x y) → Pairwise R (l ++ m)
+  pairwise-append [] m pl pm h = pm
+  pairwise-append (x ∷ l) m pl pm h = (
+    λ y g. elim (mem-cases l m y g) [ inl k ↦ pl .0 y k | inr k ↦ h x y (inl refl) k ],
+    pairwise-append l m (pl .1) pm (λ y z hy hz. h y z (inr hy) hz),
+  )
+
+  pub pairwise-snoc : (l : List ℕ) (x : ℕ) → Pairwise R l → ((y : ℕ) → Mem y l → R y x) → Pairwise R (l ++ (x ∷ []))
+  pairwise-snoc l x pl h =
+      pairwise-append l (x ∷ []) pl (λ y g. absurd g, tt) (λ y z hy hz. elim hz [ inl e ↦ subst (R y) (sym e) (h y hy) | inr g ↦ absurd g ])
+
+  pub pairwise-all : (l : List ℕ) → ((x y : ℕ) → Mem x l → Mem y l → R x y) → Pairwise R l
+  pairwise-all [] h = tt
+  pairwise-all (x ∷ l) h = (λ y g. h x y (inl refl) (inr g), pairwise-all l (λ y z hy hz. h y z (inr hy) (inr hz)))
+
+  pub pairwise-cases : (l : List ℕ) → Pairwise R l → (q p : ℕ) → Mem q l → Mem p l → (q ≡ p) ⊎ (R q p ⊎ R p q)
+  pairwise-cases [] pl q p hq hp = absurd hq
+  pairwise-cases (x ∷ l) pl q p (inl e) (inl g) = inl (e ∙ sym g)
+  pairwise-cases (x ∷ l) pl q p (inl e) (inr h) = inr (inl (subst (λ (y : ℕ). R y p) (sym e) (pl .0 p h)))
+  pairwise-cases (x ∷ l) pl q p (inr h) (inl e) = inr (inr (subst (λ (y : ℕ). R y q) (sym e) (pl .0 q h)))
+  pairwise-cases (x ∷ l) pl q p (inr h) (inr g) = pairwise-cases l (pl .1) q p h g
+
+  pub pairwise-map : (S : ℕ → ℕ → Type 0) (l : List ℕ) → ((x y : ℕ) → Mem x l → Mem y l → R x y → S x y) → Pairwise R l → Pairwise S l
+  pairwise-map S [] h pl = tt
+  pairwise-map S (x ∷ l) h pl = (λ y g. h x y (inl refl) (inr g) (pl .0 y g), pairwise-map S l (λ y z hy hz. h y z (inr hy) (inr hz)) (pl .1))
+
+-- ---- first
+
+-- What the first member that passes a test is, beside any other that does.
+pub record First (f : ℕ → Bool) (R : ℕ → ℕ → Type 0) (l : List ℕ) (x y : ℕ) : Type 0 where
+  pub is-in : Mem x l
+  pub passes : f x ≡ true
+  pub before : (x ≡ y) ⊎ R x y
+
+pub first-is : (f : ℕ → Bool) (R : ℕ → ℕ → Type 0) (d : ℕ) (l : List ℕ) → Pairwise R l → (y : ℕ) → Mem y l → f y ≡ true → First f R l (first f d l) y
+unfolding first
+first-is f R d [] p y h t = absurd h
+first-is f R d (x ∷ l) p y h t = pick (f x) refl h (λ g. first-is f R d l (p .1) y g t)
+  where
+    pick : (b : Bool) → f x ≡ b → Mem y (x ∷ l) → (Mem y l → First f R l (first f d l) y) → First f R (x ∷ l) (elim b [ true ↦ x | false ↦ first f d l ]) y
+    pick true e (inl g) ih = record { is-in = inl refl; passes = e; before = inl (sym g) }
+    pick true e (inr g) ih = record { is-in = inl refl; passes = e; before = inr (p .0 y g) }
+    pick false e (inl g) ih = clash (subst (λ (z : ℕ). f z ≡ true) g t) e
+    pick false e (inr g) ih = let r = ih g in record { is-in = inr (r .is-in); passes = r .passes; before = r .before }
+
+-- ---- place
+
+pub place-in : (x : ℕ) (l : List ℕ) → Mem x l → place x l < length l
+unfolding place
+place-in x [] h = absurd h
+place-in x (y ∷ l) h = pick (eqb x y) refl h (place-in x l)
+  where
+    pick : (b : Bool) → eqb x y ≡ b → Mem x (y ∷ l) → (Mem x l → place x l < length l) → (elim b [ true ↦ 0 | false ↦ suc (place x l) ]) < suc (length l)
+    pick true e g ih = omega arith
+    pick false e (inl g) ih = absurd (eqb-false x y e g)
+    pick false e (inr g) ih = omega (arith, ih g)
+
+pub place-at : (x : ℕ) (l : List ℕ) → Mem x l → getD l (place x l) 0 ≡ x
+unfolding place
+place-at x [] h = absurd h
+place-at x (y ∷ l) h = pick (eqb x y) refl h (place-at x l)
+  where
+    pick : (b : Bool) → eqb x y ≡ b → Mem x (y ∷ l) → (Mem x l → getD l (place x l) 0 ≡ x) → getD (y ∷ l) (elim b [ true ↦ 0 | false ↦ suc (place x l) ]) 0 ≡ x
+    pick true e g ih = sym (eqb-true x y e)
+    pick false e (inl g) ih = absurd (eqb-false x y e g)
+    pick false e (inr g) ih = ih g
+
+-- A list with no repeats is no longer than one that has all its members.
+pub subset-length : (l m : List ℕ) → Distinct l → ((x : ℕ) → Mem x l → Mem x m) → length l ≤ length m
+subset-length l m dl h = pigeonhole l (length m) dl (λ x g. place x m) (λ x g. place-in x m (h x g))
+    (λ x y g k e. sym (place-at x m (h x g)) ∙ ap (λ (i : ℕ). getD m i 0) e ∙ place-at y m (h y k))
+
+-- ---- sift
+module _ (like : ℕ → ℕ → Bool) where
+  pub sift-more : (xs l : List ℕ) → (m : List ℕ) × (sift like l xs ≡ l ++ m)
+  unfolding sift
+  sift-more [] l = ([], sym (append-nil l))
+  sift-more (x ∷ xs) l = pick (some (like x) l) (sift-more xs)
+    where
+      pick : (b : Bool) → ((l : List ℕ) → (m : List ℕ) × (sift like l xs ≡ l ++ m))
+          → (m : List ℕ) × ((elim b [ true ↦ sift like l xs | false ↦ sift like (l ++ (x ∷ [])) xs ]) ≡ l ++ m)
+      pick true ih = ih l
+      pick false ih = let r = ih (l ++ (x ∷ [])) in (x ∷ r .0, r .1 ∙ append-assoc l (x ∷ []) (r .0))
+
+  pub sift-keeps : (xs l : List ℕ) (x : ℕ) → Mem x l → Mem x (sift like l xs)
+  sift-keeps xs l x h = let r = sift-more xs l in subst (Mem x) (sym (r .1)) (mem-left l (r .0) x h)
+
+  -- Induction: what holds of l and of what is to come, whichever way each x goes, holds at the end.
+  sift-ind : (P : List ℕ → List ℕ → Type 0)
+      → ((x : ℕ) (xs l : List ℕ) → P l (x ∷ xs) → some (like x) l ≡ true → P l xs)
+      → ((x : ℕ) (xs l : List ℕ) → P l (x ∷ xs) → some (like x) l ≡ false → P (l ++ (x ∷ [])) xs)
+      → (xs l : List ℕ) → P l xs → P (sift like l xs) []
+  unfolding sift
+  sift-ind P skip add [] l h = h
+  sift-ind P skip add (x ∷ xs) l h = pick (some (like x) l) refl (sift-ind P skip add xs)
+    where
+      pick : (b : Bool) → some (like x) l ≡ b → ((l : List ℕ) → P l xs → P (sift like l xs) [])
+          → P (elim b [ true ↦ sift like l xs | false ↦ sift like (l ++ (x ∷ [])) xs ]) []
+      pick true e ih = ih l (skip x xs l h e)
+      pick false e ih = ih (l ++ (x ∷ [])) (add x xs l h e)
+
+  pub sift-all : (Q : ℕ → Type 0) (xs l : List ℕ) → ((x : ℕ) → Mem x l → Q x) → ((x : ℕ) → Mem x xs → Q x) → (x : ℕ) → Mem x (sift like l xs) → Q x
+  sift-all Q xs l hl hx = sift-ind (λ l xs. ((x : ℕ) → Mem x l → Q x) × ((x : ℕ) → Mem x xs → Q x))
+      (λ x xs l h e. (h .0, λ y g. h .1 y (inr g)))
+      (λ x xs l h e. (λ y g. elim (mem-snoc l x y g) [ inl k ↦ h .0 y k | inr k ↦ subst Q (sym k) (h .1 x (inl refl)) ], λ y g. h .1 y (inr g)))
+      xs l (hl, hx) .0
+
+  -- No member is like one before it.
+  abbrev pub Apart : ℕ → ℕ → Type 0
+  Apart x y = like y x ≡ false
+
+  pub sift-apart : (xs l : List ℕ) → Pairwise Apart l → Pairwise Apart (sift like l xs)
+  sift-apart = sift-ind (λ l xs. Pairwise Apart l) (λ x xs l h e. h) (λ x xs l h e. pairwise-snoc Apart l x h (none-has (like x) l e))
+
+  -- Each of xs is like some member that is no later than itself, in an order that the lists follow.
+  module _ (R : ℕ → ℕ → Type 0) where
+    pub record Ordered (l xs : List ℕ) : Type 0 where
+      pub done : Pairwise R l
+      pub ahead : Pairwise R xs
+      pub between : (y x : ℕ) → Mem y l → Mem x xs → R y x
+
+    pub ordered-nil : (xs : List ℕ) → Pairwise R xs → Ordered [] xs
+    ordered-nil xs p = record { done = tt; ahead = p; between = λ y x g h. absurd g }
+
+    ordered-skip : (x : ℕ) (xs l : List ℕ) → Ordered l (x ∷ xs) → Ordered l xs
+    ordered-skip x xs l o = record { done = o .done; ahead = o .ahead .1; between = λ y z hy hz. o .between y z hy (inr hz) }
+
+    ordered-add : (x : ℕ) (xs l : List ℕ) → Ordered l (x ∷ xs) → Ordered (l ++ (x ∷ [])) xs
+    ordered-add x xs l o = record {
+      done = pairwise-snoc R l x (o .done) (λ y g. o .between y x g (inl refl));
+      ahead = o .ahead .1;
+      between = λ y z hy hz. elim (mem-snoc l x y hy) [ inl g ↦ o .between y z g (inr hz) | inr e ↦ subst (λ (u : ℕ). R u z) (sym e) (o .ahead .0 z hz) ];
+    }
+
+    pub sift-ordered : (xs l : List ℕ) → Ordered l xs → Pairwise R (sift like l xs)
+    sift-ordered xs l o = sift-ind Ordered (λ x xs l o e. ordered-skip x xs l o) (λ x xs l o e. ordered-add x xs l o) xs l o .done
+
+    -- a member that x is like, and that is no later
+    pub record Cover (x : ℕ) (l : List ℕ) : Type 0 where
+      pub by : ℕ
+      pub is-in : Mem by l
+      pub alike : like x by ≡ true
+      pub early : R by x
+
+    cover-more : (x y : ℕ) (l : List ℕ) → Cover x l → Cover x (l ++ (y ∷ []))
+    cover-more x y l c = record { by = c .by; is-in = mem-left l (y ∷ []) (c .by) (c .is-in); alike = c .alike; early = c .early }
+
+    pub sift-covers : (xs l : List ℕ) → Ordered l xs → (x : ℕ) → like x x ≡ true → R x x → Mem x xs → Cover x (sift like l xs)
+    sift-covers xs l o x self still h = last (sift-ind (λ m ys. Ordered m ys × (Mem x ys ⊎ Cover x m)) skip add xs l (o, inl h) .1)
+      where
+        last : Mem x [] ⊎ Cover x (sift like l xs) → Cover x (sift like l xs)
+        last (inl g) = absurd g
+        last (inr c) = c
+
+        skip : (y : ℕ) (ys l : List ℕ) → Ordered l (y ∷ ys) × (Mem x (y ∷ ys) ⊎ Cover x l) → some (like y) l ≡ true → Ordered l ys × (Mem x ys ⊎ Cover x l)
+        skip y ys l o e = (
+          ordered-skip y ys l (o .0),
+          elim (o .1) [
+            | inl m ↦ elim m [
+                | inl g ↦ (let r = some-has (like y) l e in
+                    inr (record { by = r .0; is-in = r .1; alike = subst (λ (u : ℕ). like u (r .0) ≡ true) (sym g) (r .2); early = subst (R (r .0)) (sym g) (o .0 .between (r .0) y (r .1) (inl refl)) }))
+                | inr g ↦ inl g
+              ]
+            | inr c ↦ inr c
+          ],
+        )
+
+        add : (y : ℕ) (ys l : List ℕ) → Ordered l (y ∷ ys) × (Mem x (y ∷ ys) ⊎ Cover x l) → some (like y) l ≡ false
+            → Ordered (l ++ (y ∷ [])) ys × (Mem x ys ⊎ Cover x (l ++ (y ∷ [])))
+        add y ys l o e = (
+          ordered-add y ys l (o .0),
+          elim (o .1) [
+            | inl m ↦ elim m [
+                | inl g ↦ inr (record { by = x; is-in = mem-right l (y ∷ []) x (inl g); alike = self; early = still })
+                | inr g ↦ inl g
+              ]
+            | inr c ↦ inr (cover-more x y l c)
+          ],
+        )
+
+  -- Where each of xs is like some member, nothing is added.
+  pub sift-none : (xs l : List ℕ) → ((x : ℕ) → Mem x xs → some (like x) l ≡ true) → sift like l xs ≡ l
+  unfolding sift
+  sift-none [] l h = refl
+  sift-none (x ∷ xs) l h = pick (some (like x) l) (h x (inl refl)) (sift-none xs l (λ y g. h y (inr g)))
+    where
+      pick : (b : Bool) → b ≡ true → sift like l xs ≡ l → (elim b [ true ↦ sift like l xs | false ↦ sift like (l ++ (x ∷ [])) xs ]) ≡ l
+      pick true e ih = ih
+      pick false e ih = clash e refl
