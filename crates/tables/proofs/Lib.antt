@@ -4,3 +4,5 @@ pub mod Similar
 pub mod Folds
 pub mod Numbering
 pub mod Reduced
+pub mod NoOffset
+pub mod Canonical

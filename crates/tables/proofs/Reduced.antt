@@ -15,7 +15,7 @@ use Rattle.automata.proofs.Runs.{Reach, way-in, stay, event, _then_, less, near
 use Rattle.automata.proofs.Folding.{Folding, folded, fold-agrees, kept-met, fewest}
 use Rattle.tables.specs.Table.{Table, Valid, markBytes, markOf, targetOf, pack, machine, eventsOf}
 use Rattle.tables.specs.Lists.{tabulate}
-use Rattle.tables.specs.Reduction.{Offset, offset, none, kept, fold, numbering, number, reduced}
+use Rattle.tables.specs.Reduction.{Offset, offset, none, kept, fold, numbering, number, renumbered, reduced}
 use Rattle.tables.proofs.Lists.{tabulate-length, tabulate-at, at-mem, place-in, place-at}
 use Rattle.tables.proofs.Marks.{mark-small, pack-length, pack-mark, pack-bytes}
 use Rattle.tables.proofs.Folds.{kept-order, folding}
@@ -77,7 +77,7 @@ module _ (weight : ℕ → ℕ) (light : (a : ℕ) → weight a ≤ 1) (T : Tabl
 
   -- The new row count is the number of kept rows: every kept row is met.
   pub count-kept : T′ .rows ≡ length (kept E M (offset k))
-  unfolding reduced
+  unfolding reduced renumbered
   count-kept = numbering-length E M f (kept E M (offset k)) start-kept next-kept kept-fits (kept-met F) (F .distinct)
 
   closed : Closed E M f rows
@@ -89,14 +89,14 @@ module _ (weight : ℕ → ℕ) (light : (a : ℕ) → weight a ≤ 1) (T : Tabl
   some-row = omega (arith, ap length (numbering-starts E M f .1))
 
   cell-at : (c : ℕ) → c < length rows * T .events → getD (T′ .cells) c 0 ≡ number E M f (M .target (getD rows (c / T .events) 0) (c % T .events))
-  unfolding reduced
+  unfolding reduced renumbered
   cell-at c h = tabulate-at (length rows * T .events) _ c 0 h
 
   target-mem : (i a : ℕ) → i < length rows → a < T .events → Mem (f (M .target (getD rows i 0) a)) rows
   target-mem i a hi ha = closed (getD rows i 0) a (at-mem rows i 0 hi) ha
 
   target-at : (i a : ℕ) → i < length rows → a < T .events → targetOf T′ i a ≡ number E M f (M .target (getD rows i 0) a)
-  unfolding reduced
+  unfolding reduced renumbered
   target-at i a hi ha = cell-at (i * T .events + a) (digits-lt hi ha) ∙ rw (digits-div i ha, digits-mod i ha)
 
   target-row : (i a : ℕ) → i < length rows → a < T .events → getD rows (targetOf T′ i a) 0 ≡ f (M .target (getD rows i 0) a)
@@ -112,12 +112,12 @@ module _ (weight : ℕ → ℕ) (light : (a : ℕ) → weight a ≤ 1) (T : Tabl
       (place-in (f (M .target (getD rows (c / T .events) 0) (c % T .events))) rows (target-mem (c / T .events) (c % T .events) hi (mod-lt c m)))
 
   marks-at : (r : ℕ) → markOf (T′ .marks) r ≡ getD (map (M .mark) rows) r 0
-  unfolding reduced
+  unfolding reduced renumbered
   marks-at r = pack-mark (map (M .mark) rows) (marks-small T rows) r
 
   -- ---- theorem a, first part
   pub reduced-valid : Valid T′
-  unfolding reduced
+  unfolding reduced renumbered
   reduced-valid = record {
     some-row = some-row;
     rows-fit = omega (arith, count-kept, kept-fits, v .rows-fit);
@@ -137,7 +137,7 @@ module _ (weight : ℕ → ℕ) (light : (a : ℕ) → weight a ≤ 1) (T : Tabl
     row : getD rows i 0 ≡ x
 
   at-next : (i x a : ℕ) → a < T .events → At i x → At (targetOf T′ i a) (f (M .target x a))
-  unfolding reduced
+  unfolding reduced renumbered
   at-next i x a ha p = record {
     inside = cell-in (i * T .events + a) (digits-lt (p .inside) ha);
     row = target-row i a (p .inside) ha ∙ ap (λ (y : ℕ). f (M .target y a)) (p .row);
@@ -148,7 +148,7 @@ module _ (weight : ℕ → ℕ) (light : (a : ℕ) → weight a ≤ 1) (T : Tabl
   at-after (a ∷ w) i x hw p = at-after w (targetOf T′ i a) (f (M .target x a)) (hw .1) (at-next i x a (hw .0) p)
 
   at-start : At (T′ .start) (f (M .start))
-  unfolding reduced
+  unfolding reduced renumbered
   at-start = record { inside = some-row; row = ap (λ (l : List ℕ). getD l 0 0) (numbering-starts E M f .1) }
 
   shows-folded : (w : List ℕ) → Run E w → shows (machine T′) w ≡ shows (folded M f) w

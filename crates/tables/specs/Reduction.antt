@@ -90,27 +90,30 @@ module _ (E : Events) (M : Machine) where
     unfoldable pub number : ℕ → ℕ
     number q = place (f q) numbering
 
--- What becomes of row q.
-unfoldable pub fateOf : Events → Machine → Offset → ℕ → Fate
-fateOf E M k q = elim (unreached E M q) [
-  | true ↦ lost
-  | false ↦ elim (some (eqb q) (kept E M k)) [ true ↦ keptAs (number E M (fold E M k) q) | false ↦ foldedInto (fold E M k q) ]
-]
+    -- The kept rows with their own marks, each target replaced by the row into which it folds. The new start is 0.
+    unfoldable pub renumbered : Table
+    renumbered =
+        let l = numbering in
+        record {
+          rows = length l;
+          events = E .count;
+          start = 0;
+          cells = tabulate (length l * E .count) (λ c. number (M .target (getD l (c / E .count) 0) (c % E .count)));
+          marks = pack (map (M .mark) l);
+        }
 
--- The reduced table: the kept rows with their own marks, each target replaced by the row it folds into. The new start is 0.
+-- What becomes of a row that is unreached or not, and kept or not; i is its new number, p the row into which it folds.
+abbrev pub fateBy : Bool → Bool → ℕ → ℕ → Fate
+fateBy true keeps i p = lost
+fateBy false true i p = keptAs i
+fateBy false false i p = foldedInto p
+
+unfoldable pub fateOf : Events → Machine → Offset → ℕ → Fate
+fateOf E M k q = fateBy (unreached E M q) (some (eqb q) (kept E M k)) (number E M (fold E M k) q) (fold E M k q)
+
+-- The reduced table.
 unfoldable pub reduced : (ℕ → ℕ) → Offset → Table → Table
-reduced weight k T =
-    let E = eventsOf weight T in
-    let M = machine T in
-    let f = fold E M k in
-    let l = numbering E M f in
-    record {
-      rows = length l;
-      events = T .events;
-      start = 0;
-      cells = tabulate (length l * T .events) (λ c. number E M f (M .target (getD l (c / T .events) 0) (c % T .events)));
-      marks = pack (map (M .mark) l);
-    }
+reduced weight k T = renumbered (eventsOf weight T) (machine T) (fold (eventsOf weight T) (machine T) k)
 
 -- The records of the given rows.
 unfoldable pub records : (ℕ → ℕ) → Offset → Table → List Record
