@@ -5,7 +5,7 @@ use mathlib.Core.Logic.{_⊎_, inl, inr}
 use Prim.Native.Nat.{ℕ, zero, suc, _+_, _≤_, _<_}
 use native.Mathlib.Omega.{arith}
 use native.Mathlib.Decide.{decLe}
-use Rattle.automata.specs.Lengths.{every}
+use Rattle.automata.specs.Nearness.{every}
 use Rattle.automata.proofs.Tests.{either, clash, not-true, flip-true, last-or-less, every-at, every-make}
 
 -- ---- how many numbers below n pass a test

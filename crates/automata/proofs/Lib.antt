@@ -3,5 +3,4 @@ pub mod Lists
 pub mod Runs
 pub mod Classes
 pub mod Nearness
-pub mod Lengths
 pub mod Folding

@@ -10,7 +10,7 @@ use lib.Dec.{eqb}
 use borrow.Author.Tests.{eqb-true, eqb-false, eq-eqb}
 use lib.ListN.{length}
 use Rattle.automata.specs.Runs.{Events, Machine, Sound, Light, Run, size, after, Near}
-use Rattle.automata.specs.Lengths.{every, rounds, near}
+use Rattle.automata.specs.Nearness.{every, rounds, near}
 use Rattle.automata.proofs.Tests.{either, and-left, and-right, and-cases, every-at, every-fails, if-true, if-false, unless-true, unless-false}
 use Rattle.automata.proofs.Runs.{near-up, near-step}
 use Rattle.automata.proofs.Classes.{Equivalence, classes, classes-bound, classes-some, classes-same, rests}

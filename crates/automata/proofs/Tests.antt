@@ -5,8 +5,7 @@ use mathlib.Core.Logic.{_⊎_, inl, inr, _↔_}
 use Prim.Native.Nat.{ℕ, zero, suc, _+_, _≤_, _<_}
 use native.Mathlib.Omega.{arith}
 use native.Mathlib.Decide.{ℕ-discrete}
-use Rattle.automata.specs.Runs.{Len, len, endless}
-use Rattle.automata.specs.Lengths.{every, least}
+use Rattle.automata.specs.Nearness.{every}
 
 pub either : (b : Bool) → (b ≡ true) ⊎ (b ≡ false)
 either true = inl refl
@@ -98,21 +97,3 @@ every-fails (suc n) f e = pick (and-cases (f n) (every n f) e) (every-fails n f)
     pick : (f n ≡ false) ⊎ (every n f ≡ false) → (every n f ≡ false → (i : ℕ) × (i < n) × (f i ≡ false)) → (i : ℕ) × (i < suc n) × (f i ≡ false)
     pick (inl g) ih = (n, omega arith, g)
     pick (inr g) ih = let x = ih g in (x .0, omega (arith, x .1), x .2)
-
--- What `least` answers, begun at i with n numbers to try.
-abbrev pub Answer : (ℕ → Bool) → ℕ → ℕ → Len → Type 0
-Answer f n i (len L) = (f L ≡ true) × (L < i + n) × ((K : ℕ) → i ≤ K → K < L → f K ≡ false)
-Answer f n i endless = (K : ℕ) → i ≤ K → K < i + n → f K ≡ false
-
-pub least-is : (f : ℕ → Bool) (n i : ℕ) → Answer f n i (least f n i)
-unfolding least
-least-is f zero i = λ K low high. absurd (omega arith)
-least-is f (suc n) i = pick (f i) refl (least f n (suc i)) (least-is f n (suc i))
-  where
-    later : f i ≡ false → (x : Len) → Answer f n (suc i) x → Answer f (suc n) i x
-    later e (len L) h = (h .0, omega arith, λ K low high. elim (last-or-less i K (omega arith)) [ inl g ↦ subst (λ (j : ℕ). f j ≡ false) g e | inr g ↦ h .2 K g high ])
-    later e endless h = λ K low high. elim (last-or-less i K (omega arith)) [ inl g ↦ subst (λ (j : ℕ). f j ≡ false) g e | inr g ↦ h K g (omega arith) ]
-
-    pick : (b : Bool) → f i ≡ b → (x : Len) → Answer f n (suc i) x → Answer f (suc n) i (elim b [ true ↦ len i | false ↦ x ])
-    pick true e x h = (e, omega arith, λ K low high. absurd (omega arith))
-    pick false e x h = later e x h

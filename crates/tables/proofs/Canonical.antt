@@ -10,14 +10,14 @@ use lib.Dec.{eqb}
 use borrow.Author.Tests.{eqb-true, eq-eqb}
 use lib.ListN.{length, getD}
 use Rattle.automata.specs.Runs.{Events, Machine, Sound, Light, Near, AgreeFrom}
-use Rattle.automata.specs.Lengths.{depth}
+use Rattle.tables.specs.Lengths.{depth}
 use Rattle.automata.proofs.Tests.{either, clash}
 use Rattle.automata.proofs.Lists.{Mem, few}
 use Rattle.automata.proofs.Runs.{Reach, stay, event, _then_, less, near-sym, near-trans, near-up, near-step, near-cast, near-refl}
 use Rattle.automata.proofs.Folding.{Folding, Alike}
-use Rattle.tables.specs.Table.{Table, Valid, pack, machine, eventsOf}
+use Rattle.tables.specs.Table.{Table, Valid, pack, machine, eventsOf, Offset, offset}
 use Rattle.tables.specs.Lists.{tabulate, some, place, sift}
-use Rattle.tables.specs.Reduction.{Offset, offset, kept, fold, met, numbering, number, renumbered, reduced}
+use Rattle.tables.specs.Reduction.{kept, fold, met, numbering, number, renumbered, reduced}
 use Rattle.tables.proofs.Lists.{tabulate-same}
 use Rattle.tables.proofs.Folds.{kept-order, folding}
 use Rattle.tables.proofs.Numbering.{Closed, met-rests}

@@ -1,20 +1,21 @@
 -- The order of the reached rows, and the folding that follows from it.
 use mathlib.Core.Path.{_≡_, refl, sym, ap, subst, _∙_}
-use mathlib.Core.Bool.{Bool, true, false, not, _&&_}
+use mathlib.Core.Bool.{Bool, true, _&&_}
 use mathlib.Core.List.{List, [], _∷_, _++_}
 use mathlib.Core.Logic.{_⊎_, inl, inr, _≢_}
 use Prim.Native.Nat.{ℕ, zero, suc, _+_, _*_, _≤_, _<_}
 use native.Mathlib.Omega.{arith}
-use borrow.Author.Tests.{eqb-true, eq-eqb, not-true}
+use borrow.Author.Tests.{eqb-true, eq-eqb}
 use Rattle.automata.specs.Runs.{Events, Machine, Sound, Light, Len, len, endless, IsDepth}
-use Rattle.automata.specs.Lengths.{unreached, depth}
+use Rattle.tables.specs.Lengths.{reached, depth}
 use Rattle.automata.proofs.Tests.{clash, and-left, and-right, and-make, last-or-less}
 use Rattle.automata.proofs.Lists.{Mem, Pairwise, Distinct}
 use Rattle.automata.proofs.Runs.{Reach, way-in}
-use Rattle.automata.proofs.Lengths.{Below, reached-is, reached-found, depth-is, depth-below}
+use Rattle.tables.proofs.Lengths.{Below, reached-is, reached-found, depth-is, depth-below}
 use Rattle.automata.proofs.Folding.{Alike, _⊑_, Atleast, Folding}
 use Rattle.tables.specs.Lists.{tabulate, filter, first, sift}
-use Rattle.tables.specs.Reduction.{Offset, offset, none, sameLen, level, levels, order, similar, kept, fold}
+use Rattle.tables.specs.Table.{Offset, offset, none}
+use Rattle.tables.specs.Reduction.{sameLen, level, levels, order, similar, kept, fold}
 use Rattle.tables.proofs.Lists.{mem-left, mem-right, mem-cases, mem-tabulate, tabulate-mem, filter-mem, mem-filter, pairwise-append, pairwise-all, pairwise-cases, pairwise-map}
 use Rattle.tables.proofs.Lists.{First, first-is, Apart, sift-all, sift-apart, Cover, ordered-nil, sift-ordered, sift-covers}
 use Rattle.tables.proofs.Similar.{similar-holds, similar-found, similar-refl, similar-sym}
@@ -38,21 +39,21 @@ module _ (E : Events) (M : Machine) where
   abbrev pub Deeper : ℕ → ℕ → Type 0
   Deeper x y = depth E M y ⊑ depth E M x
 
-  level-mem : (d : Len) (q : ℕ) → Mem q (level E M d) → (q < M .rows) × (unreached E M q ≡ false) × (depth E M q ≡ d)
+  level-mem : (d : Len) (q : ℕ) → Mem q (level E M d) → (q < M .rows) × (reached E M q ≡ true) × (depth E M q ≡ d)
   unfolding level
   level-mem d q h =
       let m = filter-mem _ (tabulate (M .rows) (λ x. x)) q h in
       let r = tabulate-mem (M .rows) (λ x. x) q (m .0) in
       (
         omega (arith, r .1, r .2),
-        not-true (unreached E M q) (and-left (not (unreached E M q)) _ (m .1)),
-        same-len (depth E M q) d (and-right (not (unreached E M q)) (sameLen (depth E M q) d) (m .1)),
+        and-left (reached E M q) _ (m .1),
+        same-len (depth E M q) d (and-right (reached E M q) (sameLen (depth E M q) d) (m .1)),
       )
 
-  mem-level : (q : ℕ) → q < M .rows → unreached E M q ≡ false → Mem q (level E M (depth E M q))
+  mem-level : (q : ℕ) → q < M .rows → reached E M q ≡ true → Mem q (level E M (depth E M q))
   unfolding level
   mem-level q h u = mem-filter _ (tabulate (M .rows) (λ x. x)) q (mem-tabulate (M .rows) (λ x. x) q h)
-      (and-make (not (unreached E M q)) (sameLen (depth E M q) (depth E M q)) (rw u) (len-same (depth E M q)))
+      (and-make (reached E M q) (sameLen (depth E M q) (depth E M q)) u (len-same (depth E M q)))
 
   levels-mem : (n q : ℕ) → Mem q (levels E M n) → (d : ℕ) × (d < n) × Mem q (level E M (len d))
   unfolding levels
@@ -73,14 +74,14 @@ module _ (E : Events) (M : Machine) where
   ]
 
   -- The order has just the reached rows,
-  pub order-mem : (q : ℕ) → Mem q (order E M) → (q < M .rows) × (unreached E M q ≡ false)
+  pub order-mem : (q : ℕ) → Mem q (order E M) → (q < M .rows) × (reached E M q ≡ true)
   unfolding order
   order-mem q h = elim (mem-cases (level E M endless) (levels E M (M .rows)) q h) [
     | inl g ↦ (let r = level-mem endless q g in (r .0, r .1))
     | inr g ↦ (let l = levels-mem (M .rows) q g in let r = level-mem (len (l .0)) q (l .2) in (r .0, r .1))
   ]
 
-  pub mem-order : (q : ℕ) → q < M .rows → unreached E M q ≡ false → Mem q (order E M)
+  pub mem-order : (q : ℕ) → q < M .rows → reached E M q ≡ true → Mem q (order E M)
   unfolding order
   mem-order q h u = pick (depth E M q) (depth-below E M q (omega arith)) (mem-level q h u)
     where
@@ -111,9 +112,9 @@ module _ {E : Events} {M : Machine} (s : Sound E M) (z : Light E) (k : ℕ) wher
   abbrev like : ℕ → ℕ → Bool
   like = similar E M (offset k)
 
-  pub kept-order : (q : ℕ) → Mem q (kept E M (offset k)) → (q < M .rows) × (unreached E M q ≡ false)
+  pub kept-order : (q : ℕ) → Mem q (kept E M (offset k)) → (q < M .rows) × (reached E M q ≡ true)
   unfolding kept
-  kept-order = sift-all like (λ q. (q < M .rows) × (unreached E M q ≡ false)) (order E M) [] (λ x h. absurd h) (order-mem E M)
+  kept-order = sift-all like (λ q. (q < M .rows) × (reached E M q ≡ true)) (order E M) [] (λ x h. absurd h) (order-mem E M)
 
   kept-apart : Pairwise (Apart like) (kept E M (offset k))
   unfolding kept
@@ -132,7 +133,7 @@ module _ {E : Events} {M : Machine} (s : Sound E M) (z : Light E) (k : ℕ) wher
       ]
   ]
 
-  cover : (q : ℕ) → q < M .rows → unreached E M q ≡ false → Cover like (Deeper E M) q (kept E M (offset k))
+  cover : (q : ℕ) → q < M .rows → reached E M q ≡ true → Cover like (Deeper E M) q (kept E M (offset k))
   unfolding kept
   cover q h u = sift-covers like (Deeper E M) (order E M) [] (ordered-nil like (Deeper E M) (order E M) (order-falls E M)) q
       (similar-refl s z k q h) (λ c g. g) (mem-order E M q h u)
@@ -143,7 +144,7 @@ module _ {E : Events} {M : Machine} (s : Sound E M) (z : Light E) (k : ℕ) wher
     alike : like q p ≡ true
     deeper : Deeper E M p q
 
-  into : (q : ℕ) → q < M .rows → unreached E M q ≡ false → Into q (fold E M (offset k) q)
+  into : (q : ℕ) → q < M .rows → reached E M q ≡ true → Into q (fold E M (offset k) q)
   unfolding fold
   into q h u =
       let c = cover q h u in
@@ -157,18 +158,18 @@ module _ {E : Events} {M : Machine} (s : Sound E M) (z : Light E) (k : ℕ) wher
         ];
       }
 
-  reached : (q : ℕ) → Reach E M q 0 → (q < M .rows) × (unreached E M q ≡ false)
-  reached q r = let h = way-in s (s .start-in) r in (h, reached-found s z q h r)
+  row-of : (q : ℕ) → Reach E M q 0 → (q < M .rows) × (reached E M q ≡ true)
+  row-of q r = let h = way-in s (s .start-in) r in (h, reached-found s z q h r)
 
   pub folding : Folding E M (depth E M) k (kept E M (offset k)) (fold E M (offset k))
   folding = record {
     distinct = pairwise-map (Apart like) _≢_ (kept E M (offset k)) (λ x y hx hy a e.
         clash (subst (λ (u : ℕ). like u x ≡ true) e (similar-refl s z k x (kept-order x hx .0))) a) kept-apart;
-    depth-is = λ q r. depth-is s z q (reached q r .0) r;
+    depth-is = λ q r. depth-is s z q (row-of q r .0) r;
     kept-reach = λ q m. let h = kept-order q m in reached-is s z q (h .0) (h .1);
     kept-apart = λ q p hq hp n. apart-one q p hq hp (similar-found s z k q p (kept-order q hq .0) (kept-order p hp .0) n);
-    fold-kept = λ q r. let h = reached q r in into q (h .0) (h .1) .is-kept;
-    fold-alike = λ q r. let h = reached q r in let i = into q (h .0) (h .1) in
+    fold-kept = λ q r. let h = row-of q r in into q (h .0) (h .1) .is-kept;
+    fold-alike = λ q r. let h = row-of q r in let i = into q (h .0) (h .1) in
         similar-holds s z k q (fold E M (offset k) q) (h .0) (kept-order (fold E M (offset k) q) (i .is-kept) .0) (i .alike);
-    fold-deep = λ q r. let h = reached q r in into q (h .0) (h .1) .deeper;
+    fold-deep = λ q r. let h = row-of q r in into q (h .0) (h .1) .deeper;
   }

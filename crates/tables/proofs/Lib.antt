@@ -1,8 +1,11 @@
 pub mod Lists
 pub mod Marks
+pub mod Lengths
 pub mod Similar
 pub mod Folds
 pub mod Numbering
 pub mod Reduced
 pub mod NoOffset
 pub mod Canonical
+pub mod Theorems
+pub mod Cases

@@ -9,13 +9,13 @@ use native.Mathlib.Decide.{decLe}
 use lib.Arith.{digits-lt, digits-div, digits-mod}
 use lib.ListN.{length, getD, length-map, List·getD-map, List·getD-eq-default}
 use Rattle.automata.specs.Runs.{Events, Machine, Sound, Light, Run, after, shows, Near, AgreeFrom, Leads}
-use Rattle.automata.specs.Lengths.{unreached, depth}
+use Rattle.tables.specs.Lengths.{depth}
 use Rattle.automata.proofs.Lists.{Mem, Distinct, few}
 use Rattle.automata.proofs.Runs.{Reach, way-in, stay, event, _then_, less, near-sym, near-trans}
 use Rattle.automata.proofs.Folding.{Folding, folded, fold-agrees, kept-met, fewest}
-use Rattle.tables.specs.Table.{Table, Valid, markBytes, markOf, targetOf, pack, machine, eventsOf}
+use Rattle.tables.specs.Table.{Table, Valid, markBytes, markOf, targetOf, pack, machine, eventsOf, Offset, offset, none}
 use Rattle.tables.specs.Lists.{tabulate}
-use Rattle.tables.specs.Reduction.{Offset, offset, none, kept, fold, numbering, number, renumbered, reduced}
+use Rattle.tables.specs.Reduction.{kept, fold, numbering, number, renumbered, reduced}
 use Rattle.tables.proofs.Lists.{tabulate-length, tabulate-at, at-mem, place-in, place-at}
 use Rattle.tables.proofs.Marks.{mark-small, pack-length, pack-mark, pack-bytes}
 use Rattle.tables.proofs.Folds.{kept-order, folding}
@@ -157,9 +157,9 @@ module _ (weight : ℕ → ℕ) (light : (a : ℕ) → weight a ≤ 1) (T : Tabl
       marks-at (after (machine T′) (T′ .start) w) ∙ mark-at T rows (after (machine T′) (T′ .start) w) (p .inside) ∙ ap (M .mark) (p .row)
 
   -- theorem a, second part
-  pub reduced-agrees : AgreeFrom E k (machine T′) M
-  reduced-agrees = record { same = λ w hw hl. shows-folded w hw ∙ sym (fold-agrees F .same w hw hl) }
+  pub reduced-agrees : AgreeFrom E k M (machine T′)
+  reduced-agrees = record { same = λ w hw hl. fold-agrees F .same w hw hl ∙ sym (shows-folded w hw) }
 
   -- theorem b
-  pub reduced-fewest : (N : Table) → Valid N → N .events ≡ T .events → AgreeFrom E k (machine N) M → T′ .rows ≤ N .rows
-  reduced-fewest N n e agree = omega (arith, count-kept, fewest F (machine N) (sound-of weight T N e n) agree)
+  pub reduced-fewest : (N : Table) → Valid N → N .events ≡ T .events → AgreeFrom E k M (machine N) → T′ .rows ≤ N .rows
+  reduced-fewest N n e agree = omega (arith, count-kept, fewest F (machine N) (sound-of weight T N e n) (near-sym agree))

@@ -7,12 +7,13 @@ use native.Mathlib.Decide.{ℕ-discrete}
 use lib.Dec.{eqb, leb}
 use borrow.Author.Tests.{eq-eqb, ne-eqb, leb-true, le-leb, lt-leb}
 use Rattle.automata.specs.Runs.{Events, Machine, Sound, Light, Near, Len, len, endless, IsDistance}
-use Rattle.automata.specs.Lengths.{distance, depth}
+use Rattle.tables.specs.Lengths.{distance, depth}
 use Rattle.automata.proofs.Tests.{clash}
 use Rattle.automata.proofs.Runs.{near-refl, near-sym, near-up}
-use Rattle.automata.proofs.Lengths.{Below, distance-is, distance-below, depth-below}
+use Rattle.tables.proofs.Lengths.{Below, distance-is, distance-below, depth-below}
 use Rattle.automata.proofs.Folding.{Alike, cap}
-use Rattle.tables.specs.Reduction.{Offset, offset, none, replaced, finite, similarBy, similar}
+use Rattle.tables.specs.Table.{Offset, offset, none}
+use Rattle.tables.specs.Reduction.{replaced, finite, similarBy, similar}
 
 -- ---- with an offset
 

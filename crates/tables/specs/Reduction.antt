@@ -1,18 +1,13 @@
 -- "The rules of reduction", in document 01's order.
-use mathlib.Core.Bool.{Bool, true, false, not, _&&_, _||_}
+use mathlib.Core.Bool.{Bool, true, false, _&&_, _||_}
 use mathlib.Core.List.{List, [], _∷_, _++_, map}
 use Prim.Native.Nat.{ℕ, zero, suc, _+_, _*_, _/_, _%_, min}
 use lib.Dec.{eqb, leb}
 use lib.ListN.{length, getD}
 use Rattle.automata.specs.Runs.{Events, Machine, Len, len, endless}
-use Rattle.automata.specs.Lengths.{distance, depth, unreached}
-use Rattle.tables.specs.Table.{Table, machine, eventsOf, pack}
+use Rattle.tables.specs.Lengths.{distance, depth, reached}
+use Rattle.tables.specs.Table.{Table, Offset, offset, none, machine, eventsOf, pack}
 use Rattle.tables.specs.Lists.{tabulate, filter, some, first, place, sift}
-
--- An offset: a number from 0 to 65,535, or none.
-pub data Offset : Type 0 where
-  offset : ℕ → Offset
-  none : Offset
 
 -- A depth as a number: an endless one is replaced by k.
 abbrev pub replaced : ℕ → Len → ℕ
@@ -40,7 +35,7 @@ sameLen endless endless = true
 pub data Fate : Type 0 where
   keptAs : ℕ → Fate
   foldedInto : ℕ → Fate
-  lost : Fate
+  unreached : Fate
 
 -- A row's record.
 pub record Record : Type 0 where
@@ -50,7 +45,7 @@ pub record Record : Type 0 where
 module _ (E : Events) (M : Machine) where
   -- The reached rows of depth d, lower numbers first.
   unfoldable pub level : Len → List ℕ
-  level d = filter (λ q. not (unreached E M q) && sameLen (depth E M q) d) (tabulate (M .rows) (λ q. q))
+  level d = filter (λ q. reached E M q && sameLen (depth E M q) d) (tabulate (M .rows) (λ q. q))
 
   -- The levels below d, the deepest first.
   unfoldable pub levels : ℕ → List ℕ
@@ -102,14 +97,14 @@ module _ (E : Events) (M : Machine) where
           marks = pack (map (M .mark) l);
         }
 
--- What becomes of a row that is unreached or not, and kept or not; i is its new number, p the row into which it folds.
+-- What becomes of a row that is reached or not, and kept or not; i is its new number, p the row into which it folds.
 abbrev pub fateBy : Bool → Bool → ℕ → ℕ → Fate
-fateBy true keeps i p = lost
-fateBy false true i p = keptAs i
-fateBy false false i p = foldedInto p
+fateBy false keeps i p = unreached
+fateBy true true i p = keptAs i
+fateBy true false i p = foldedInto p
 
 unfoldable pub fateOf : Events → Machine → Offset → ℕ → Fate
-fateOf E M k q = fateBy (unreached E M q) (some (eqb q) (kept E M k)) (number E M (fold E M k) q) (fold E M k q)
+fateOf E M k q = fateBy (reached E M q) (some (eqb q) (kept E M k)) (number E M (fold E M k) q) (fold E M k q)
 
 -- The reduced table.
 unfoldable pub reduced : (ℕ → ℕ) → Offset → Table → Table

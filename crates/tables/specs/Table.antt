@@ -3,9 +3,15 @@ use mathlib.Core.Path.{_≡_}
 use mathlib.Core.List.{List, [], _∷_}
 use Prim.Native.Nat.{ℕ, zero, suc, _+_, _*_, _/_, _%_, _^_, _≤_, _<_}
 use lib.ListN.{length, getD, take, drop}
-use Rattle.automata.specs.Runs.{Events, Machine}
+use Rattle.automata.specs.Runs.{Events, Machine, AgreeFrom}
 use Rattle.tables.specs.Lists.{tabulate}
 
+-- An offset: a number from 0 to 65,535, or none.
+pub data Offset : Type 0 where
+  offset : ℕ → Offset
+  none : Offset
+
+-- A table as it is stored.
 pub record Table : Type 0 where
   pub rows : ℕ
   pub events : ℕ
@@ -66,3 +72,13 @@ pub record Valid (T : Table) : Type 0 where
   pub spare-clear : (r : ℕ) → T .rows ≤ r → markOf (T .marks) r ≡ 0
   -- The mark bytes are bytes.
   pub bytes : (i : ℕ) → getD (T .marks) i 0 < 256
+
+-- Demand 2, of the given table T and another U over the same events: they agree after every run of the offset's length or more;
+-- with no offset, there is some length such that they agree after every run of that length or more.
+abbrev pub Agrees : (ℕ → ℕ) → Offset → Table → Table → Type 0
+Agrees weight (offset k) T U = AgreeFrom (eventsOf weight T) k (machine T) (machine U)
+Agrees weight none T U = (L : ℕ) × AgreeFrom (eventsOf weight T) L (machine T) (machine U)
+
+-- Demand 3: every table over the same events that agrees so with T has at least as many rows as U.
+abbrev pub Fewest : (ℕ → ℕ) → Offset → Table → Table → Type 0
+Fewest weight k T U = (N : Table) → Valid N → N .events ≡ T .events → Agrees weight k T N → U .rows ≤ N .rows

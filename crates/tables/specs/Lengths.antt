@@ -1,31 +1,14 @@
--- Distance and depth as functions that compute.
-use mathlib.Core.Bool.{Bool, true, false, _&&_, cond}
-use Prim.Native.Nat.{ℕ, zero, suc, _+_, _-_, _≤_, _<_}
+-- Distance and depth as functions that compute; proofs/Lengths.antt has the law that they are document 01's.
+use mathlib.Core.Bool.{Bool, true, false, not, cond}
+use Prim.Native.Nat.{ℕ, zero, suc, _+_, _-_}
 use lib.Dec.{eqb, ltb}
 use Rattle.automata.specs.Runs.{Events, Machine, Len, len, endless}
-
--- The test holds of every number below n.
-unfoldable pub every : ℕ → (ℕ → Bool) → Bool
-every zero f = true
-every (suc n) f = f n && every n f
+use Rattle.automata.specs.Nearness.{near}
 
 -- The least number from i on, of n numbers, that passes the test; endless if none does.
 unfoldable pub least : (ℕ → Bool) → ℕ → ℕ → Len
 least f zero i = endless
 least f (suc n) i = elim (f i) [ true ↦ len i | false ↦ least f n (suc i) ]
-
--- `base` holds of rows q and p, and of those that any j or fewer events picked by `light` lead to.
-unfoldable pub rounds : Events → Machine → (ℕ → ℕ → Bool) → (ℕ → Bool) → ℕ → ℕ → ℕ → Bool
-rounds E M base light zero q p = base q p
-rounds E M base light (suc j) q p =
-    base q p && every (E .count) (λ a. elim (light a) [ true ↦ rounds E M base light j (M .target q a) (M .target p a) | false ↦ true ])
-
--- No run of size L or more tells q from p, as far as c events without weight between two with weight can show.
-unfoldable pub near : Events → Machine → ℕ → ℕ → ℕ → ℕ → Bool
-near E M c zero = rounds E M (λ q p. eqb (M .mark q) (M .mark p)) (λ a. true) c
-near E M c (suc L) =
-    rounds E M (λ q p. every (E .count) (λ a. elim (eqb (E .weight a) 0) [ true ↦ true | false ↦ near E M c L (M .target q a) (M .target p a) ]))
-    (λ a. eqb (E .weight a) 0) c
 
 -- The distance of two rows: the least L with `near`, which is below the number of rows or not at all.
 unfoldable pub distance : Events → Machine → ℕ → ℕ → Len
@@ -60,9 +43,9 @@ abbrev pub oneLess : Len → Len
 oneLess (len L) = len (L - 1)
 oneLess endless = endless
 
--- Whether no run leads from the start to q.
-unfoldable pub unreached : Events → Machine → ℕ → Bool
-unreached E M q = isZero (lead E M q)
+-- Whether a run leads from the start to q.
+unfoldable pub reached : Events → Machine → ℕ → Bool
+reached E M q = not (isZero (lead E M q))
 
 -- The depth of a row; 0 for one that is unreached.
 unfoldable pub depth : Events → Machine → ℕ → Len

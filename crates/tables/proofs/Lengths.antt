@@ -8,11 +8,30 @@ use native.Mathlib.Omega.{arith}
 use native.Mathlib.Decide.{ℕ-discrete, decLe}
 use lib.Dec.{eqb, ltb}
 use borrow.Author.Tests.{eqb-true, eqb-false, eq-eqb, ne-eqb, lt-ltb, le-ltb}
 use Rattle.automata.specs.Runs.{Events, Machine, Sound, Light, Run, size, after, Near, Leads, Len, len, endless, IsDistance, IsDepth, Unreached}
-use Rattle.automata.specs.Lengths.{near, least, distance, beside, only, still, lead, isZero, oneLess, unreached, depth}
-use Rattle.automata.proofs.Tests.{either, clash, Answer, least-is}
+use Rattle.automata.specs.Nearness.{near}
+use Rattle.tables.specs.Lengths.{least, distance, beside, only, still, lead, isZero, oneLess, reached, depth}
+use Rattle.automata.proofs.Tests.{either, clash, flip-true, last-or-less}
 use Rattle.automata.proofs.Runs.{Reach, Way, after-in, near-up}
 use Rattle.automata.proofs.Nearness.{Told, Long, near-holds, near-found, near-fails, near-bound}
+
+-- What `least` answers, begun at i with n numbers to try.
+abbrev Answer : (ℕ → Bool) → ℕ → ℕ → Len → Type 0
+Answer f n i (len L) = (f L ≡ true) × (L < i + n) × ((K : ℕ) → i ≤ K → K < L → f K ≡ false)
+Answer f n i endless = (K : ℕ) → i ≤ K → K < i + n → f K ≡ false
+
+least-is : (f : ℕ → Bool) (n i : ℕ) → Answer f n i (least f n i)
+unfolding least
+least-is f zero i = λ K low high. absurd (omega arith)
+least-is f (suc n) i = pick (f i) refl (least f n (suc i)) (least-is f n (suc i))
+  where
+    later : f i ≡ false → (x : Len) → Answer f n (suc i) x → Answer f (suc n) i x
+    later e (len L) h = (h .0, omega arith, λ K low high. elim (last-or-less i K (omega arith)) [ inl g ↦ subst (λ (j : ℕ). f j ≡ false) g e | inr g ↦ h .2 K g high ])
+    later e endless h = λ K low high. elim (last-or-less i K (omega arith)) [ inl g ↦ subst (λ (j : ℕ). f j ≡ false) g e | inr g ↦ h K g (omega arith) ]
+
+    pick : (b : Bool) → f i ≡ b → (x : Len) → Answer f n (suc i) x → Answer f (suc n) i (elim b [ true ↦ len i | false ↦ x ])
+    pick true e x h = (e, omega arith, λ K low high. absurd (omega arith))
+    pick false e x h = later e x h
 
 -- A finite length is below n.
 abbrev pub Below : ℕ → Len → Type 0
@@ -175,17 +194,16 @@ module _ {E : Events} {M : Machine} (s : Sound E M) (z : Light E) (q : ℕ) (hq 
       )
   said endless h = inr (refl, found 0 (h 0), λ c. (let r = found c (h c) in (r .by, r .leads, r .long)))
 
-  pub unreached-is : unreached E M q ≡ true → Unreached E M q
-  unfolding unreached Said
-  unreached-is e = elim (said (lead E M q) lead-is) [ inl h ↦ h .1 | inr h ↦ clash e (h .0) ]
+  pub reached-is : reached E M q ≡ true → Reach E M q 0
+  unfolding reached Said
+  reached-is e = elim (said (lead E M q) lead-is) [ inl h ↦ clash (h .0) (flip-true (isZero (lead E M q)) e) | inr h ↦ h .1 ]
 
-  pub reached-is : unreached E M q ≡ false → Reach E M q 0
-  unfolding unreached Said
-  reached-is e = elim (said (lead E M q) lead-is) [ inl h ↦ clash (h .0) e | inr h ↦ h .1 ]
+  pub reached-found : Reach E M q 0 → reached E M q ≡ true
+  unfolding reached Said
+  reached-found r = elim (said (lead E M q) lead-is) [ inl h ↦ absurd (h .1 (r .by) (r .leads)) | inr h ↦ rw (h .0) ]
 
-  pub reached-found : Reach E M q 0 → unreached E M q ≡ false
-  unfolding unreached Said
-  reached-found r = elim (said (lead E M q) lead-is) [ inl h ↦ absurd (h .1 (r .by) (r .leads)) | inr h ↦ h .0 ]
+  pub unreached-is : reached E M q ≡ false → Unreached E M q
+  unreached-is e w l = clash (reached-found (record { by = w; leads = l; long = omega arith })) e
 
   pub depth-is : Reach E M q 0 → IsDepth E M q (depth E M q)
   unfolding depth Said
