@@ -1,12 +1,12 @@
 -- A machine whose rows are folded into similar ones: it agrees from the offset on, meets every kept row, and no machine that agrees has fewer.
-use mathlib.Core.Path.{_≡_, refl, sym, ap, subst, _∙_}
+use mathlib.Core.Path.{_≡_, sym, ap, subst, _∙_}
 use mathlib.Core.List.{List, [], _∷_, _++_}
 use Prim.Native.Nat.{ℕ, _+_, _-_, _≤_, _<_, min}
 use native.Mathlib.Omega.{arith}
 use lib.ListN.{length}
-use Rattle.automata.specs.Runs.{Events, Machine, Sound, Run, size, after, shows, Near, AgreeFrom, Leads, Len, len, endless, IsDepth}
+use Rattle.automata.specs.Runs.{Events, Machine, Sound, Run, size, after, Near, AgreeFrom, Leads, Len, len, endless, IsDepth}
 use Rattle.automata.proofs.Lists.{Mem, Distinct, pigeonhole}
-use Rattle.automata.proofs.Runs.{run-append, size-append, after-append, after-in, Reach, Way, stay, event, _then_, less, near-refl, near-trans, near-up, near-step}
+use Rattle.automata.proofs.Runs.{run-append, size-append, after-append, after-in, Reach, stay, event, _then_, less, near-refl, near-trans, near-up, near-step}
 
 -- ---- lengths
 
@@ -111,10 +111,6 @@ module _ {E : Events} {M : Machine} {depth : ℕ → Len} {k : ℕ} {kept : List
         same = λ w hw hl. ap (λ (x : ℕ). M .mark (after M x w)) (sym (r .leads .ends)) ∙ i .close .same w hw (omega (arith, r .long));
       } in
       (r .by, record { run = r .leads .run; ends = sym (F .kept-apart q p hq (i .is-kept) n) })
-
-  -- A row that the folded machine is on is kept.
-  pub after-kept : (w : List ℕ) → Run E w → Mem (after (folded M fold) (fold (M .start)) w) kept
-  after-kept w hw = follows w hw .is-kept
 
   -- A machine that agrees with M from the offset on has no fewer rows.
   module _ (N : Machine) (t : Sound E N) (agree : AgreeFrom E k N M) where

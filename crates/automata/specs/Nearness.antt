@@ -1,4 +1,4 @@
--- Whether runs tell two rows apart, as a test that computes.
+-- Whether runs tell two rows apart, as a test that computes. That it decides `Near` is proved in proofs/Nearness.antt.
 use mathlib.Core.Bool.{Bool, true, false, _&&_}
 use Prim.Native.Nat.{ℕ, zero, suc}
 use lib.Dec.{eqb}
@@ -15,7 +15,7 @@ rounds E M base light zero q p = base q p
 rounds E M base light (suc j) q p =
     base q p && every (E .count) (λ a. elim (light a) [ true ↦ rounds E M base light j (M .target q a) (M .target p a) | false ↦ true ])
 
--- No run of size L or more tells q from p, as far as c events without weight between two with weight can show.
+-- No run of size L or more tells q from p. It looks at c events without weight in a row at the most; as many as there are rows is enough.
 unfoldable pub near : Events → Machine → ℕ → ℕ → ℕ → ℕ → Bool
 near E M c zero = rounds E M (λ q p. eqb (M .mark q) (M .mark p)) (λ a. true) c
 near E M c (suc L) =

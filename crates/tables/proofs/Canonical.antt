@@ -1,6 +1,6 @@
 -- At offset 0, tables that agree after all runs have the same reduction, cell for cell.
 use mathlib.Core.Path.{_≡_, refl, sym, ap, subst, _∙_}
-use mathlib.Core.Bool.{Bool, true, false, _||_}
+use mathlib.Core.Bool.{Bool, true, false}
 use mathlib.Core.List.{List, [], _∷_, _++_, map}
 use mathlib.Core.Logic.{_⊎_, inl, inr}
 use Prim.Native.Nat.{ℕ, zero, suc, _+_, _*_, _/_, _%_, _≤_, _<_}
@@ -13,14 +13,14 @@ use Rattle.automata.specs.Runs.{Events, Machine, Sound, Light, Near, AgreeFrom}
 use Rattle.tables.specs.Lengths.{depth}
 use Rattle.automata.proofs.Tests.{either, clash}
 use Rattle.automata.proofs.Lists.{Mem, few}
-use Rattle.automata.proofs.Runs.{Reach, stay, event, _then_, less, near-sym, near-trans, near-up, near-step, near-cast, near-refl}
-use Rattle.automata.proofs.Folding.{Folding, Alike}
-use Rattle.tables.specs.Table.{Table, Valid, pack, machine, eventsOf, Offset, offset}
+use Rattle.automata.proofs.Runs.{Reach, stay, event, _then_, less, near-sym, near-trans, near-up, near-step, near-cast}
+use Rattle.automata.proofs.Folding.{Folding}
+use Rattle.tables.specs.Table.{Table, Valid, pack, machine, eventsOf, offset}
 use Rattle.tables.specs.Lists.{tabulate, some, place, sift}
 use Rattle.tables.specs.Reduction.{kept, fold, met, numbering, number, renumbered, reduced}
 use Rattle.tables.proofs.Lists.{tabulate-same}
 use Rattle.tables.proofs.Folds.{kept-order, folding}
-use Rattle.tables.proofs.Numbering.{Closed, met-rests}
+use Rattle.tables.proofs.Numbering.{met-rests}
 use Rattle.tables.proofs.Reduced.{sound-of}
 
 -- Two lists, as long as one another, whose members stand in the relation place by place.

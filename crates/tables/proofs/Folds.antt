@@ -1,23 +1,23 @@
 -- The order of the reached rows, and the folding that follows from it.
-use mathlib.Core.Path.{_≡_, refl, sym, ap, subst, _∙_}
-use mathlib.Core.Bool.{Bool, true, _&&_}
-use mathlib.Core.List.{List, [], _∷_, _++_}
+use mathlib.Core.Path.{_≡_, refl, sym, ap, subst}
+use mathlib.Core.Bool.{Bool, true}
+use mathlib.Core.List.{[], _++_}
 use mathlib.Core.Logic.{_⊎_, inl, inr, _≢_}
-use Prim.Native.Nat.{ℕ, zero, suc, _+_, _*_, _≤_, _<_}
+use Prim.Native.Nat.{ℕ, zero, suc, _<_}
 use native.Mathlib.Omega.{arith}
 use borrow.Author.Tests.{eqb-true, eq-eqb}
-use Rattle.automata.specs.Runs.{Events, Machine, Sound, Light, Len, len, endless, IsDepth}
+use Rattle.automata.specs.Runs.{Events, Machine, Sound, Light, Len, len, endless}
 use Rattle.tables.specs.Lengths.{reached, depth}
 use Rattle.automata.proofs.Tests.{clash, and-left, and-right, and-make, last-or-less}
-use Rattle.automata.proofs.Lists.{Mem, Pairwise, Distinct}
+use Rattle.automata.proofs.Lists.{Mem, Pairwise}
 use Rattle.automata.proofs.Runs.{Reach, way-in}
 use Rattle.tables.proofs.Lengths.{Below, reached-is, reached-found, depth-is, depth-below}
-use Rattle.automata.proofs.Folding.{Alike, _⊑_, Atleast, Folding}
-use Rattle.tables.specs.Lists.{tabulate, filter, first, sift}
-use Rattle.tables.specs.Table.{Offset, offset, none}
+use Rattle.automata.proofs.Folding.{_⊑_, Folding}
+use Rattle.tables.specs.Lists.{tabulate}
+use Rattle.tables.specs.Table.{offset}
 use Rattle.tables.specs.Reduction.{sameLen, level, levels, order, similar, kept, fold}
 use Rattle.tables.proofs.Lists.{mem-left, mem-right, mem-cases, mem-tabulate, tabulate-mem, filter-mem, mem-filter, pairwise-append, pairwise-all, pairwise-cases, pairwise-map}
-use Rattle.tables.proofs.Lists.{First, first-is, Apart, sift-all, sift-apart, Cover, ordered-nil, sift-ordered, sift-covers}
+use Rattle.tables.proofs.Lists.{first-is, Apart, sift-all, sift-apart, Cover, ordered-nil, sift-ordered, sift-covers}
 use Rattle.tables.proofs.Similar.{similar-holds, similar-found, similar-refl, similar-sym}
 
 same-len : (d e : Len) → sameLen d e ≡ true → d ≡ e
@@ -43,8 +43,7 @@ module _ (E : Events) (M : Machine) where
   unfolding level
   level-mem d q h =
       let m = filter-mem _ (tabulate (M .rows) (λ x. x)) q h in
-      let r = tabulate-mem (M .rows) (λ x. x) q (m .0) in
-      (
+      let r = tabulate-mem (M .rows) (λ x. x) q (m .0) in (
         omega (arith, r .1, r .2),
         and-left (reached E M q) _ (m .1),
         same-len (depth E M q) d (and-right (reached E M q) (sameLen (depth E M q) d) (m .1)),
@@ -128,9 +127,9 @@ module _ {E : Events} {M : Machine} (s : Sound E M) (z : Light E) (k : ℕ) wher
   apart-one q p hq hp t = elim (pairwise-cases (Apart like) (kept E M (offset k)) kept-apart q p hq hp) [
     | inl e ↦ e
     | inr r ↦ elim r [
-        | inl f ↦ clash (similar-sym s z k q p (kept-order q hq .0) (kept-order p hp .0) t) f
-        | inr f ↦ clash t f
-      ]
+      | inl f ↦ clash (similar-sym s z k q p (kept-order q hq .0) (kept-order p hp .0) t) f
+      | inr f ↦ clash t f
+    ]
   ]
 
   cover : (q : ℕ) → q < M .rows → reached E M q ≡ true → Cover like (Deeper E M) q (kept E M (offset k))

@@ -2,17 +2,17 @@
 use mathlib.Core.Path.{_≡_, refl, sym, ap, subst, _∙_}
 use mathlib.Core.List.{List, [], _∷_}
 use mathlib.Core.Bool.{Bool, true, false, cond}
-use mathlib.Core.Logic.{_⊎_, inl, inr, _≢_, _↔_}
+use mathlib.Core.Logic.{_⊎_, inl, inr}
 use Prim.Native.Nat.{ℕ, zero, suc, _+_, _-_, _≤_, _<_}
 use native.Mathlib.Omega.{arith}
-use native.Mathlib.Decide.{ℕ-discrete, decLe}
-use lib.Dec.{eqb, ltb}
-use borrow.Author.Tests.{eqb-true, eqb-false, eq-eqb, ne-eqb, lt-ltb, le-ltb}
+use native.Mathlib.Decide.{decLe}
+use lib.Dec.{eqb}
+use borrow.Author.Tests.{eqb-true, eq-eqb, ne-eqb, lt-ltb, le-ltb}
 use Rattle.automata.specs.Runs.{Events, Machine, Sound, Light, Run, size, after, Near, Leads, Len, len, endless, IsDistance, IsDepth, Unreached}
 use Rattle.automata.specs.Nearness.{near}
-use Rattle.tables.specs.Lengths.{least, distance, beside, only, still, lead, isZero, oneLess, reached, depth}
+use Rattle.tables.specs.Lengths.{least, distance, beside, only, sink, lead, isZero, oneLess, reached, depth}
 use Rattle.automata.proofs.Tests.{either, clash, flip-true, last-or-less}
-use Rattle.automata.proofs.Runs.{Reach, Way, after-in, near-up}
+use Rattle.automata.proofs.Runs.{Reach, after-in}
 use Rattle.automata.proofs.Nearness.{Told, Long, near-holds, near-found, near-fails, near-bound}
 
 -- What `least` answers, begun at i with n numbers to try.
@@ -122,31 +122,27 @@ module _ {E : Events} {M N : Machine} (s : Sound E M) (t : Sound E N) where
 -- ---- depth
 module _ {E : Events} {M : Machine} (s : Sound E M) (z : Light E) (q : ℕ) (hq : q < M .rows) where
   abbrev Watch : Machine
-  Watch = beside (only M q) still
+  Watch = beside (only M q) sink
 
   sound-only : Sound E (only M q)
   sound-only = record { start-in = s .start-in; target-in = s .target-in }
 
-  sound-still : Sound E still
-  sound-still = record { start-in = omega arith; target-in = λ p a hp ha. omega arith }
+  sound-sink : Sound E sink
+  sound-sink = record { start-in = omega arith; target-in = λ p a hp ha. omega arith }
 
   sound-watch : Sound E Watch
-  sound-watch = sound-beside sound-only sound-still
+  sound-watch = sound-beside sound-only sound-sink
 
   after-only : (w : List ℕ) (p : ℕ) → after (only M q) p w ≡ after M p w
   after-only [] p = refl
   after-only (a ∷ w) p = after-only w (M .target p a)
 
-  after-still : (w : List ℕ) → after still 0 w ≡ 0
-  after-still [] = refl
-  after-still (a ∷ w) = after-still w
-
   -- The two rows show different marks after w just if w leads to q.
   watch-left : (w : List ℕ) → Run E w → Watch .mark (after Watch (M .start) w) ≡ cond (eqb (after M (M .start) w) q) 1 0
-  watch-left w hw = left-mark sound-only sound-still w (M .start) hw (s .start-in) ∙ ap (only M q .mark) (after-only w (M .start))
+  watch-left w hw = left-mark sound-only sound-sink w (M .start) hw (s .start-in) ∙ ap (only M q .mark) (after-only w (M .start))
 
   watch-right : (w : List ℕ) → Run E w → Watch .mark (after Watch (M .rows) w) ≡ 0
-  watch-right w hw = right-mark sound-only sound-still w (M .rows) 0 hw (omega arith)
+  watch-right w hw = right-mark sound-only sound-sink w (M .rows) 0 hw (omega arith)
 
   leads-of : (L : ℕ) → Told E Watch (Long E L) (M .start) (M .rows) → Reach E M q L
   leads-of L t = record { by = t .by; leads = record { run = t .run; ends = pick (either (eqb (after M (M .start) (t .by)) q)) }; long = t .within }
@@ -221,7 +217,7 @@ depth-one E M q endless endless h k = refl
 -- A depth is at most the number of rows, and below it where there is a row.
 pub depth-below : (E : Events) (M : Machine) (q : ℕ) → 0 < M .rows → Below (M .rows) (depth E M q)
 unfolding depth lead
-depth-below E M q h = pick (distance E (beside (only M q) still) (M .start) (M .rows)) (distance-below E (beside (only M q) still) (M .start) (M .rows))
+depth-below E M q h = pick (distance E (beside (only M q) sink) (M .start) (M .rows)) (distance-below E (beside (only M q) sink) (M .start) (M .rows))
   where
     pick : (x : Len) → Below (M .rows + 1) x → Below (M .rows) (oneLess x)
     pick (len L) b = omega arith

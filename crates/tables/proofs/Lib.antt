@@ -1,3 +1,4 @@
+pub mod Cases
 pub mod Lists
 pub mod Marks
 pub mod Lengths
@@ -8,4 +9,4 @@ pub mod Reduced
 pub mod NoOffset
 pub mod Canonical
 pub mod Theorems
-pub mod Cases
+pub mod BoldCases

@@ -1,13 +1,13 @@
 -- Laws of the lists that the rules of reduction are written with.
 use mathlib.Core.Path.{_≡_, refl, sym, ap, subst, _∙_}
-use mathlib.Core.Bool.{Bool, true, false, _||_}
-use mathlib.Core.List.{List, [], _∷_, _++_, map, append-nil, append-assoc}
-use mathlib.Core.Logic.{_⊎_, inl, inr, _≢_}
-use Prim.Native.Nat.{ℕ, zero, suc, _+_, _≤_, _<_, zero-le, suc-le-suc}
+use mathlib.Core.Bool.{Bool, true, false}
+use mathlib.Core.List.{List, [], _∷_, _++_, append-nil, append-assoc}
+use mathlib.Core.Logic.{_⊎_, inl, inr}
+use Prim.Native.Nat.{ℕ, zero, suc, _≤_, _<_, zero-le, suc-le-suc}
 use native.Mathlib.Omega.{arith}
 use native.Mathlib.Decide.{decLe}
 use lib.Dec.{eqb}
-use borrow.Author.Tests.{eqb-true, eqb-false, eq-eqb, ne-eqb}
+use borrow.Author.Tests.{eqb-true, eqb-false}
 use lib.ListN.{length, getD, List·getD-eq-default}
 use Rattle.automata.proofs.Tests.{either, clash, or-cases, or-left, or-right}
 use Rattle.automata.proofs.Lists.{Mem, Pairwise, Distinct, pigeonhole}
@@ -211,9 +211,6 @@ module _ (like : ℕ → ℕ → Bool) where
       pick true ih = ih l
       pick false ih = let r = ih (l ++ (x ∷ [])) in (x ∷ r .0, r .1 ∙ append-assoc l (x ∷ []) (r .0))
 
-  pub sift-keeps : (xs l : List ℕ) (x : ℕ) → Mem x l → Mem x (sift like l xs)
-  sift-keeps xs l x h = let r = sift-more xs l in subst (Mem x) (sym (r .1)) (mem-left l (r .0) x h)
-
   -- Induction: what holds of l and of what is to come, whichever way each x goes, holds at the end.
   sift-ind : (P : List ℕ → List ℕ → Type 0)
       → ((x : ℕ) (xs l : List ℕ) → P l (x ∷ xs) → some (like x) l ≡ true → P l xs)
@@ -286,10 +283,10 @@ module _ (like : ℕ → ℕ → Bool) where
           ordered-skip y ys l (o .0),
           elim (o .1) [
             | inl m ↦ elim m [
-                | inl g ↦ (let r = some-has (like y) l e in
-                    inr (record { by = r .0; is-in = r .1; alike = subst (λ (u : ℕ). like u (r .0) ≡ true) (sym g) (r .2); early = subst (R (r .0)) (sym g) (o .0 .between (r .0) y (r .1) (inl refl)) }))
-                | inr g ↦ inl g
-              ]
+              | inl g ↦ (let r = some-has (like y) l e in
+                  inr (record { by = r .0; is-in = r .1; alike = subst (λ (u : ℕ). like u (r .0) ≡ true) (sym g) (r .2); early = subst (R (r .0)) (sym g) (o .0 .between (r .0) y (r .1) (inl refl)) }))
+              | inr g ↦ inl g
+            ]
             | inr c ↦ inr c
           ],
         )
@@ -300,9 +297,9 @@ module _ (like : ℕ → ℕ → Bool) where
           ordered-add y ys l (o .0),
           elim (o .1) [
             | inl m ↦ elim m [
-                | inl g ↦ inr (record { by = x; is-in = mem-right l (y ∷ []) x (inl g); alike = self; early = still })
-                | inr g ↦ inl g
-              ]
+              | inl g ↦ inr (record { by = x; is-in = mem-right l (y ∷ []) x (inl g); alike = self; early = still })
+              | inr g ↦ inl g
+            ]
             | inr c ↦ inr (cover-more x y l c)
           ],
         )

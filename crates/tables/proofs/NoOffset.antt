@@ -1,12 +1,12 @@
 -- An offset of twice the rows or more yields the same table and records as none.
-use mathlib.Core.Path.{_≡_, refl, ap, ap₂, fun-ext}
+use mathlib.Core.Path.{_≡_, ap, ap₂, fun-ext}
 use mathlib.Core.Bool.{Bool}
 use mathlib.Core.List.{List, []}
 use Prim.Native.Nat.{ℕ, _*_, _≤_, _<_}
 use Rattle.automata.specs.Runs.{Events, Machine}
-use Rattle.tables.specs.Table.{Table, machine, eventsOf, Offset, offset, none}
+use Rattle.tables.specs.Table.{Table, machine, eventsOf, offset, none}
 use Rattle.tables.specs.Lists.{first, sift}
-use Rattle.tables.specs.Reduction.{Record, order, similar, kept, fold, fateOf, reduced, records}
+use Rattle.tables.specs.Reduction.{order, kept, fold, fateOf, reduced, records}
 use Rattle.tables.proofs.Similar.{similar-none}
 
 module _ (E : Events) (M : Machine) (k : ℕ) (pos : 0 < M .rows) (far : 2 * M .rows ≤ k) where

@@ -15,7 +15,7 @@ use Rattle.automata.proofs.Folding.{folded}
 use Rattle.tables.specs.Lists.{tabulate, sift}
 use Rattle.tables.specs.Reduction.{met, numbering}
 use Rattle.tables.proofs.Lists.{mem-left, mem-at, read-mem, mem-tabulate, tabulate-mem, has-some, pairwise-all, pairwise-map, subset-length}
-use Rattle.tables.proofs.Lists.{Apart, sift-more, sift-keeps, sift-all, sift-apart, sift-none, Ordered, Cover, sift-covers}
+use Rattle.tables.proofs.Lists.{Apart, sift-more, sift-all, sift-apart, sift-none, sift-covers}
 
 module _ (E : Events) (M : Machine) (f : ℕ → ℕ) where
   -- the rows that the events lead to from row i of l
@@ -91,13 +91,16 @@ module _ (E : Events) (M : Machine) (f : ℕ → ℕ) where
           let m = met-more i in
           let n = length-append (met E M f i) (m .0) in
           let e = ap length (m .1) in
-          inr (omega arith, λ j a hj ha.
-          let same : getD (met E M f (suc i)) j (f (M .start)) ≡ getD (met E M f i) j (f (M .start))
-          = ap (λ (l : List ℕ). getD l j (f (M .start))) (m .1) ∙ List·getD-append (met E M f i) (m .0) (f (M .start)) j (omega arith) in
-          subst (λ (y : ℕ). Mem (f (M .target y a)) (met E M f (suc i))) (sym same) (elim (last-or-less j i hj) [
-            | inl q ↦ subst (λ (y : ℕ). Mem (f (M .target (getD (met E M f i) y (f (M .start))) a)) (met E M f (suc i))) (sym q) (met-next i a ha)
-            | inr q ↦ subst (Mem _) (sym (m .1)) (mem-left (met E M f i) (m .0) _ (g .1 j a q ha))
-          ]))
+          inr (
+            omega arith,
+            λ j a hj ha.
+                let same : getD (met E M f (suc i)) j (f (M .start)) ≡ getD (met E M f i) j (f (M .start))
+                = ap (λ (l : List ℕ). getD l j (f (M .start))) (m .1) ∙ List·getD-append (met E M f i) (m .0) (f (M .start)) j (omega arith) in
+                subst (λ (y : ℕ). Mem (f (M .target y a)) (met E M f (suc i))) (sym same) (elim (last-or-less j i hj) [
+                  | inl q ↦ subst (λ (y : ℕ). Mem (f (M .target (getD (met E M f i) y (f (M .start))) a)) (met E M f (suc i))) (sym q) (met-next i a ha)
+                  | inr q ↦ subst (Mem _) (sym (m .1)) (mem-left (met E M f i) (m .0) _ (g .1 j a q ha))
+                ]),
+          )
 
   pub numbering-starts : (m : List ℕ) × (numbering E M f ≡ f (M .start) ∷ m)
   unfolding numbering
@@ -137,12 +140,16 @@ module _ (E : Events) (M : Machine) (f : ℕ → ℕ) where
     after-numbered [] x hw h = h
     after-numbered (a ∷ w) x hw h = after-numbered w (f (M .target x a)) (hw .1) (numbering-closed x a h (hw .0))
 
-    -- Where all kept rows are met, the kept rows are the numbered ones.
-    pub numbering-length : ((q : ℕ) → Mem q kept → (w : List ℕ) × Leads E (folded M f) (f (M .start)) q w) → Distinct kept → length (numbering E M f) ≡ length kept
-    numbering-length reach dk =
-        let up = subset-length kept (numbering E M f) dk (λ q h.
-        let r = reach q h in
-        subst (λ (y : ℕ). Mem y (numbering E M f)) (r .1 .ends)
-        (after-numbered (r .0) (f (M .start)) (r .1 .run) (subst (Mem (f (M .start))) (sym (numbering-starts .1)) (inl refl)))) in
-        let down = subset-length (numbering E M f) kept numbering-distinct numbering-kept in
-        omega arith
+    -- Where all kept rows are met, they are all numbered, and so as many as the numbers.
+    module _ (reach : (q : ℕ) → Mem q kept → (w : List ℕ) × Leads E (folded M f) (f (M .start)) q w) where
+      pub kept-numbered : (q : ℕ) → Mem q kept → Mem q (numbering E M f)
+      kept-numbered q h =
+          let r = reach q h in
+          subst (λ (y : ℕ). Mem y (numbering E M f)) (r .1 .ends)
+          (after-numbered (r .0) (f (M .start)) (r .1 .run) (subst (Mem (f (M .start))) (sym (numbering-starts .1)) (inl refl)))
+
+      pub numbering-length : Distinct kept → length (numbering E M f) ≡ length kept
+      numbering-length dk =
+          let up = subset-length kept (numbering E M f) dk kept-numbered in
+          let down = subset-length (numbering E M f) kept numbering-distinct numbering-kept in
+          omega arith

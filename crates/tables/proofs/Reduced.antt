@@ -1,25 +1,22 @@
 -- The reduced table: it is valid, has as many rows as are kept, agrees with the given one, and none that agrees has fewer.
 use mathlib.Core.Path.{_≡_, refl, sym, ap, subst, _∙_}
 use mathlib.Core.List.{List, [], _∷_, map}
-use mathlib.Core.Logic.{_⊎_, inl, inr}
 use Prim.Native.Nat.{ℕ, zero, suc, _+_, _*_, _/_, _%_, _≤_, _<_}
 use native.Mathlib.Nat.{div-lt-iff-lt-mul, mod-lt}
 use native.Mathlib.Omega.{arith}
-use native.Mathlib.Decide.{decLe}
 use lib.Arith.{digits-lt, digits-div, digits-mod}
-use lib.ListN.{length, getD, length-map, List·getD-map, List·getD-eq-default}
-use Rattle.automata.specs.Runs.{Events, Machine, Sound, Light, Run, after, shows, Near, AgreeFrom, Leads}
+use lib.ListN.{length, getD, length-map, List·getD-eq-default}
+use Rattle.automata.specs.Runs.{Events, Machine, Sound, Light, Run, after, shows, AgreeFrom}
 use Rattle.tables.specs.Lengths.{depth}
-use Rattle.automata.proofs.Lists.{Mem, Distinct, few}
-use Rattle.automata.proofs.Runs.{Reach, way-in, stay, event, _then_, less, near-sym, near-trans}
+use Rattle.automata.proofs.Lists.{Mem, few}
+use Rattle.automata.proofs.Runs.{stay, event, _then_, less, near-sym}
 use Rattle.automata.proofs.Folding.{Folding, folded, fold-agrees, kept-met, fewest}
-use Rattle.tables.specs.Table.{Table, Valid, markBytes, markOf, targetOf, pack, machine, eventsOf, Offset, offset, none}
-use Rattle.tables.specs.Lists.{tabulate}
+use Rattle.tables.specs.Table.{Table, Valid, markBytes, markOf, targetOf, machine, eventsOf, offset}
 use Rattle.tables.specs.Reduction.{kept, fold, numbering, number, renumbered, reduced}
 use Rattle.tables.proofs.Lists.{tabulate-length, tabulate-at, at-mem, place-in, place-at}
 use Rattle.tables.proofs.Marks.{mark-small, pack-length, pack-mark, pack-bytes}
 use Rattle.tables.proofs.Folds.{kept-order, folding}
-use Rattle.tables.proofs.Numbering.{Closed, numbering-starts, numbering-closed, numbering-length}
+use Rattle.tables.proofs.Numbering.{Closed, numbering-starts, numbering-closed, kept-numbered, numbering-length}
 
 -- A valid table over as many events is a sound machine.
 pub sound-of : (weight : ℕ → ℕ) (T N : Table) → N .events ≡ T .events → Valid N → Sound (eventsOf weight T) (machine N)
@@ -29,9 +26,9 @@ sound-of weight T N e v = record {
 }
 
 -- A list of marks read anywhere, also beyond its end.
-marks-small : (T : Table) (l : List ℕ) (i : ℕ) → getD (map (machine T .mark) l) i 0 ≤ 1
+marks-small : (T : Table) (l : List ℕ) (i : ℕ) → getD (map (machine T .mark) l) i 0 < 2
 marks-small T [] i = omega arith
-marks-small T (x ∷ l) zero = mark-small (T .marks) x
+marks-small T (x ∷ l) zero = omega (arith, mark-small (T .marks) x)
 marks-small T (x ∷ l) (suc i) = marks-small T l i
 
 mark-at : (T : Table) (l : List ℕ) (i : ℕ) → i < length l → getD (map (machine T .mark) l) i 0 ≡ machine T .mark (getD l i 0)
@@ -75,7 +72,10 @@ module _ (weight : ℕ → ℕ) (light : (a : ℕ) → weight a ≤ 1) (T : Tabl
   kept-fits : length (kept E M (offset k)) ≤ M .rows
   kept-fits = few (kept E M (offset k)) (M .rows) (F .distinct) (λ q h. kept-order s z k q h .0)
 
-  -- The new row count is the number of kept rows: every kept row is met.
+  -- Every kept row is met, so the new row count is the number of kept rows.
+  pub kept-in : (q : ℕ) → Mem q (kept E M (offset k)) → Mem q rows
+  kept-in = kept-numbered E M f (kept E M (offset k)) start-kept next-kept kept-fits (kept-met F)
+
   pub count-kept : T′ .rows ≡ length (kept E M (offset k))
   unfolding reduced renumbered
   count-kept = numbering-length E M f (kept E M (offset k)) start-kept next-kept kept-fits (kept-met F) (F .distinct)

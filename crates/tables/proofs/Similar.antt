@@ -1,19 +1,19 @@
 -- Similarity is nearness from what the depths leave of the offset; with no offset it is that of any offset of twice the rows or more.
 use mathlib.Core.Path.{_≡_, refl, sym, _∙_, fun-ext}
 use mathlib.Core.Bool.{Bool, true, false, _||_}
-use Prim.Native.Nat.{ℕ, zero, suc, _+_, _*_, _-_, _≤_, _<_, min}
+use Prim.Native.Nat.{ℕ, _+_, _*_, _-_, _≤_, _<_, min}
 use native.Mathlib.Omega.{arith}
 use native.Mathlib.Decide.{ℕ-discrete}
 use lib.Dec.{eqb, leb}
 use borrow.Author.Tests.{eq-eqb, ne-eqb, leb-true, le-leb, lt-leb}
-use Rattle.automata.specs.Runs.{Events, Machine, Sound, Light, Near, Len, len, endless, IsDistance}
+use Rattle.automata.specs.Runs.{Events, Machine, Sound, Light, Len, len, endless, IsDistance}
 use Rattle.tables.specs.Lengths.{distance, depth}
 use Rattle.automata.proofs.Tests.{clash}
 use Rattle.automata.proofs.Runs.{near-refl, near-sym, near-up}
 use Rattle.tables.proofs.Lengths.{Below, distance-is, distance-below, depth-below}
 use Rattle.automata.proofs.Folding.{Alike, cap}
-use Rattle.tables.specs.Table.{Offset, offset, none}
-use Rattle.tables.specs.Reduction.{replaced, finite, similarBy, similar}
+use Rattle.tables.specs.Table.{offset, none}
+use Rattle.tables.specs.Reduction.{replaced, similarBy, similar}
 
 -- ---- with an offset
 

@@ -7,15 +7,16 @@ use Prim.Native.Nat.{ℕ, _+_, _*_, _≤_, _<_}
 use native.Mathlib.Omega.{arith}
 use native.Mathlib.Decide.{ℕ-discrete}
 use lib.ListN.{length}
-use Rattle.automata.specs.Runs.{Events, Machine, Sound, Light, Run, size, after, shows, Near, AgreeFrom, Len, IsDistance, IsDepth, Unreached}
+use Rattle.automata.specs.Runs.{Events, Machine, Run, size, after, shows, AgreeFrom, Len, IsDistance, IsDepth, Unreached}
 use Rattle.tables.specs.Lengths.{distance, depth, reached}
+use Rattle.automata.proofs.Lists.{Mem}
 use Rattle.automata.proofs.Runs.{Reach, near-up}
 use Rattle.tables.proofs.Lengths.{Below, distance-is, finite-distance, depth-is, finite-depth, reached-is, unreached-is}
 use Rattle.tables.specs.Table.{Table, Offset, offset, none, Valid, Agrees, Fewest, machine, eventsOf, unit}
-use Rattle.tables.specs.Reduction.{Record, kept, fold, renumbered, reduced, records}
+use Rattle.tables.specs.Reduction.{kept, fold, numbering, renumbered, reduced, records}
 use Rattle.tables.proofs.Marks.{mark-small}
-use Rattle.tables.proofs.Reduced.{sound-of, count-kept, reduced-valid, reduced-agrees, reduced-fewest}
-use Rattle.tables.proofs.NoOffset.{kept-none, reduced-none, records-none}
+use Rattle.tables.proofs.Reduced.{sound-of, kept-in, count-kept, reduced-valid, reduced-agrees, reduced-fewest}
+use Rattle.tables.proofs.NoOffset.{kept-none, fold-none, reduced-none, records-none}
 use Rattle.tables.proofs.Canonical.{reduced-same}
 
 -- ---- over any weights of 0 and 1
@@ -76,7 +77,15 @@ module _ (weight : ℕ → ℕ) (light : (a : ℕ) → weight a ≤ 1) (T : Tabl
   pub far-offset : (k : ℕ) → 2 * T .rows ≤ k → (reduced weight (offset k) T ≡ reduced weight none T) × (records weight (offset k) T ≡ records weight none T)
   far-offset k h = (sym (at-none k h), sym (records-none weight T k (v .some-row) h))
 
-  -- d. The new row count is the number of kept rows, and the new start is 0.
+  -- d. Every kept row is met, so the new row count is the number of kept rows; the new start is 0.
+  pub kept-met : (k : Offset) (q : ℕ) → Mem q (kept E M k) → Mem q (numbering E M (fold E M k))
+  kept-met (offset k) q h = kept-in weight light T v k q h
+  kept-met none q h =
+      let k : ℕ = 2 * T .rows in
+      let far : 2 * T .rows ≤ k = omega arith in
+      subst (λ (f : ℕ → ℕ). Mem q (numbering E M f)) (sym (fold-none E M k (v .some-row) far))
+      (kept-in weight light T v k q (subst (Mem q) (kept-none E M k (v .some-row) far) h))
+
   pub rows-kept : (k : Offset) → reduced weight k T .rows ≡ length (kept E M k)
   rows-kept (offset k) = count-kept weight light T v k
   rows-kept none = ap (λ (U : Table). U .rows) (at-none (2 * T .rows) (omega arith)) ∙ count-kept weight light T v (2 * T .rows)

@@ -1,4 +1,4 @@
--- Distance and depth as functions that compute; proofs/Lengths.antt has the law that they are document 01's.
+-- Distance and depth as functions that compute. That they are `IsDistance` and `IsDepth` is proved in proofs/Lengths.antt.
 use mathlib.Core.Bool.{Bool, true, false, not, cond}
 use Prim.Native.Nat.{ℕ, zero, suc, _+_, _-_}
 use lib.Dec.{eqb, ltb}
@@ -27,18 +27,20 @@ beside M N = record {
 abbrev pub only : Machine → ℕ → Machine
 only M q = record { rows = M .rows; start = M .start; target = M .target; mark = λ r. cond (eqb r q) 1 0 }
 
-abbrev pub still : Machine
-still = record { rows = 1; start = 0; target = λ q a. 0; mark = λ q. 0 }
+abbrev pub sink : Machine
+sink = record { rows = 1; start = 0; target = λ q a. 0; mark = λ q. 0 }
 
 -- The least size from which on no run leads from the start to q: one more than the depth of q, and 0 if q is unreached.
 -- It is the distance of the start from a row that leads nowhere, where q alone is marked.
 unfoldable pub lead : Events → Machine → ℕ → Len
-lead E M q = distance E (beside (only M q) still) (M .start) (M .rows)
+lead E M q = distance E (beside (only M q) sink) (M .start) (M .rows)
 
+-- A finite length of 0.
 abbrev pub isZero : Len → Bool
 isZero (len L) = eqb L 0
 isZero endless = false
 
+-- A length less one, where it is finite.
 abbrev pub oneLess : Len → Len
 oneLess (len L) = len (L - 1)
 oneLess endless = endless

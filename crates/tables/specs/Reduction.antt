@@ -14,6 +14,7 @@ abbrev pub replaced : ℕ → Len → ℕ
 replaced k (len d) = d
 replaced k endless = k
 
+-- The length is not endless.
 abbrev pub finite : Len → Bool
 finite (len d) = true
 finite endless = false
@@ -25,6 +26,7 @@ similarBy (offset k) endless d e = false
 similarBy none (len L) d e = eqb L 0 || (finite d || finite e)
 similarBy none endless d e = false
 
+-- Two lengths are equal.
 abbrev pub sameLen : Len → Len → Bool
 sameLen (len d) (len e) = eqb d e
 sameLen (len d) endless = false
@@ -57,6 +59,7 @@ module _ (E : Events) (M : Machine) where
   order = level endless ++ levels (M .rows)
 
   module _ (k : Offset) where
+    -- Whether rows q and p are similar.
     unfoldable pub similar : ℕ → ℕ → Bool
     similar q p = similarBy k (distance E M q p) (depth E M q) (depth E M p)
 
@@ -103,6 +106,7 @@ fateBy false keeps i p = unreached
 fateBy true true i p = keptAs i
 fateBy true false i p = foldedInto p
 
+-- The fate of row q.
 unfoldable pub fateOf : Events → Machine → Offset → ℕ → Fate
 fateOf E M k q = fateBy (reached E M q) (some (eqb q) (kept E M k)) (number E M (fold E M k) q) (fold E M k q)
 

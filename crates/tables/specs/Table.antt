@@ -1,7 +1,7 @@
 -- "The parts and what they hold": a table as it is stored, and the machine that it describes.
 use mathlib.Core.Path.{_≡_}
 use mathlib.Core.List.{List, [], _∷_}
-use Prim.Native.Nat.{ℕ, zero, suc, _+_, _*_, _/_, _%_, _^_, _≤_, _<_}
+use Prim.Native.Nat.{ℕ, _+_, _*_, _/_, _%_, _^_, _≤_, _<_}
 use lib.ListN.{length, getD, take, drop}
 use Rattle.automata.specs.Runs.{Events, Machine, AgreeFrom}
 use Rattle.tables.specs.Lists.{tabulate}
@@ -29,19 +29,20 @@ markBytes n = (n + 7) / 8
 abbrev pub markOf : List ℕ → ℕ → ℕ
 markOf marks r = getD marks (r / 8) 0 / 2 ^ (r % 8) % 2
 
--- The byte whose bits are the marks of the list, the first of them worth 1.
-unfoldable pub byteOf : List ℕ → ℕ
-byteOf [] = 0
-byteOf (m ∷ l) = m + 2 * byteOf l
+-- The number whose digits in base b are the list's, the first worth 1.
+unfoldable pub digits : ℕ → List ℕ → ℕ
+digits b [] = 0
+digits b (x ∷ l) = x + b * digits b l
 
 -- The bytes of a list of marks, 8 marks a byte; spare bits are 0.
 unfoldable pub pack : List ℕ → List ℕ
-pack l = tabulate (markBytes (length l)) (λ i. byteOf (take 8 (drop (8 * i) l)))
+pack l = tabulate (markBytes (length l)) (λ i. digits 2 (take 8 (drop (8 * i) l)))
 
 -- The target of row q and event a.
 abbrev pub targetOf : Table → ℕ → ℕ → ℕ
 targetOf T q a = getD (T .cells) (q * T .events + a) 0
 
+-- What the stored table says.
 abbrev pub machine : Table → Machine
 machine T = record { rows = T .rows; start = T .start; target = targetOf T; mark = markOf (T .marks) }
 
