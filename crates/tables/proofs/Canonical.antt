@@ -16,7 +16,7 @@ use Rattle.automata.proofs.Lists.{Mem, few}
 use Rattle.automata.proofs.Runs.{Reach, stay, event, _then_, less, near-sym, near-trans, near-up, near-step, near-cast}
 use Rattle.automata.proofs.Folding.{Folding}
 use Rattle.tables.specs.Table.{Table, Valid, pack, machine, eventsOf, offset}
-use Rattle.tables.specs.Lists.{tabulate, some, place, sift}
+use Rattle.tables.specs.Lists.{tabulate, some, position, place, sift}
 use Rattle.tables.specs.Reduction.{kept, fold, met, numbering, number, renumbered, reduced}
 use Rattle.tables.proofs.Lists.{tabulate-same}
 use Rattle.tables.proofs.Folds.{kept-order, folding}
@@ -78,7 +78,7 @@ module _ (R : ℕ → ℕ → Type 0) where
     both-some x y r (u ∷ l) (v ∷ m) b = rw (one x y u v r (b .0), both-some x y r l m (b .1))
 
     both-place : (x y : ℕ) → R x y → (l m : List ℕ) → Both R l m → place x l ≡ place y m
-    unfolding place
+    unfolding position
     both-place x y r [] [] b = refl
     both-place x y r [] (v ∷ m) b = absurd b
     both-place x y r (u ∷ l) [] b = absurd b
@@ -187,7 +187,7 @@ module _ {E : Events} {M N : Machine} (s : Sound E M) (t : Sound E N) (z : Light
       subst (λ (l : List ℕ). Both Twin l (numbering E N g)) (met-all s z (M .rows + N .rows) (omega arith))
       (subst (λ (m : List ℕ). Both Twin (met E M f (M .rows + N .rows)) m) (met-all t z (M .rows + N .rows) (omega arith)) (met-twins (M .rows + N .rows)))
 
-  pub renumbered-same : 0 < E .count → renumbered E M f ≡ renumbered E N g
+  renumbered-same : 0 < E .count → renumbered E M f ≡ renumbered E N g
   unfolding renumbered number
   renumbered-same pos = λ i. record { rows = long i; events = E .count; start = 0; cells = cells i; marks = pack (marks i) }
     where

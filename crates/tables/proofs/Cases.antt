@@ -8,7 +8,7 @@ use Rattle.automata.specs.Runs.{len, endless}
 use Rattle.automata.specs.Nearness.{every, rounds, near}
 use Rattle.tables.specs.Lengths.{least, distance, lead, reached, depth}
 use Rattle.tables.specs.Table.{Table, Offset, offset, none, pack, digits, unit}
-use Rattle.tables.specs.Lists.{tabulate, filter, some, first, place, sift}
+use Rattle.tables.specs.Lists.{tabulate, filter, some, first, position, sift}
 use Rattle.tables.specs.Reduction.{Record, keptAs, foldedInto, unreached, similarBy, level, levels, order, similar, kept, fold, met, numbering, number, renumbered, fateOf, reduced, records}
 
 -- The offsets that a case speaks of: one, or every offset and none.
@@ -123,7 +123,7 @@ _and_ : {A B : Type 0} → A → B → A × B
 a and b = (a, b)
 
 pub computed : All (λ c. Computed c (c .when)) cases
-unfolding every least rounds near distance lead reached depth pack digits tabulate filter some first place sift similarBy level levels order similar kept fold met numbering number renumbered fateOf reduced records
+unfolding every least rounds near distance lead reached depth pack digits tabulate filter some first position sift similarBy level levels order similar kept fold met numbering number renumbered fateOf reduced records
 computed =
     -- A0, A1, An
     (refl and refl) and (refl and tt) and (refl and tt)

@@ -1,5 +1,6 @@
 pub mod Cases
 pub mod Lists
+pub mod Over
 pub mod Marks
 pub mod Lengths
 pub mod Similar

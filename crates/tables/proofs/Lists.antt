@@ -7,11 +7,11 @@ use Prim.Native.Nat.{ℕ, zero, suc, _≤_, _<_, zero-le, suc-le-suc}
 use native.Mathlib.Omega.{arith}
 use native.Mathlib.Decide.{decLe}
 use lib.Dec.{eqb}
-use borrow.Author.Tests.{eqb-true, eqb-false}
+use borrow.Author.Tests.{eqb-true, eq-eqb}
 use lib.ListN.{length, getD, List·getD-eq-default}
 use Rattle.automata.proofs.Tests.{either, clash, or-cases, or-left, or-right}
 use Rattle.automata.proofs.Lists.{Mem, Pairwise, Distinct, pigeonhole}
-use Rattle.tables.specs.Lists.{tabulate, filter, some, first, place, sift}
+use Rattle.tables.specs.Lists.{tabulate, filter, some, first, position, place, sift}
 
 -- ---- tabulate
 
@@ -174,25 +174,48 @@ first-is f R d (x ∷ l) p y h t = pick (f x) refl h (λ g. first-is f R d l (p 
 
 -- ---- place
 
+module _ (f : ℕ → Bool) where
+  pub position-in : (l : List ℕ) (x : ℕ) → Mem x l → f x ≡ true → position f l < length l
+  unfolding position
+  position-in [] x h t = absurd h
+  position-in (y ∷ l) x h t = pick (f y) refl h (λ g. position-in l x g t)
+    where
+      pick : (b : Bool) → f y ≡ b → Mem x (y ∷ l) → (Mem x l → position f l < length l) → (elim b [ true ↦ 0 | false ↦ suc (position f l) ]) < suc (length l)
+      pick true e g ih = omega arith
+      pick false e (inl g) ih = clash (subst (λ (z : ℕ). f z ≡ true) g t) e
+      pick false e (inr g) ih = omega (arith, ih g)
+
+  pub position-passes : (l : List ℕ) (d : ℕ) → position f l < length l → f (getD l (position f l) d) ≡ true
+  unfolding position
+  position-passes [] d h = absurd (omega arith)
+  position-passes (y ∷ l) d h = pick (f y) refl h (position-passes l d)
+    where
+      pick : (b : Bool) → f y ≡ b → (elim b [ true ↦ 0 | false ↦ suc (position f l) ]) < suc (length l) → (position f l < length l → f (getD l (position f l) d) ≡ true)
+          → f (getD (y ∷ l) (elim b [ true ↦ 0 | false ↦ suc (position f l) ]) d) ≡ true
+      pick true e g ih = e
+      pick false e g ih = ih (omega arith)
+
+  -- It is i, if no member before place i passes, and the one there does or there is none.
+  pub position-is : (l : List ℕ) (i d : ℕ) → i ≤ length l → ((j : ℕ) → j < i → f (getD l j d) ≡ false) → (i < length l → f (getD l i d) ≡ true) → position f l ≡ i
+  unfolding position
+  position-is [] i d h before here = omega arith
+  position-is (y ∷ l) zero d h before here = pick (f y) (here (omega arith))
+    where
+      pick : (b : Bool) → b ≡ true → _≡_ {A = ℕ} (elim b [ true ↦ 0 | false ↦ suc (position f l) ]) 0
+      pick true e = refl
+      pick false e = clash e refl
+  position-is (y ∷ l) (suc i) d h before here =
+      pick (f y) (before 0 (omega arith)) (position-is l i d (omega arith) (λ j g. before (suc j) (omega arith)) (λ g. here (omega arith)))
+    where
+      pick : (b : Bool) → b ≡ false → position f l ≡ i → _≡_ {A = ℕ} (elim b [ true ↦ 0 | false ↦ suc (position f l) ]) (suc i)
+      pick true e g = clash refl e
+      pick false e g = ap suc g
+
 pub place-in : (x : ℕ) (l : List ℕ) → Mem x l → place x l < length l
-unfolding place
-place-in x [] h = absurd h
-place-in x (y ∷ l) h = pick (eqb x y) refl h (place-in x l)
-  where
-    pick : (b : Bool) → eqb x y ≡ b → Mem x (y ∷ l) → (Mem x l → place x l < length l) → (elim b [ true ↦ 0 | false ↦ suc (place x l) ]) < suc (length l)
-    pick true e g ih = omega arith
-    pick false e (inl g) ih = absurd (eqb-false x y e g)
-    pick false e (inr g) ih = omega (arith, ih g)
+place-in x l h = position-in (eqb x) l x h (eq-eqb x x refl)
 
 pub place-at : (x : ℕ) (l : List ℕ) → Mem x l → getD l (place x l) 0 ≡ x
-unfolding place
-place-at x [] h = absurd h
-place-at x (y ∷ l) h = pick (eqb x y) refl h (place-at x l)
-  where
-    pick : (b : Bool) → eqb x y ≡ b → Mem x (y ∷ l) → (Mem x l → getD l (place x l) 0 ≡ x) → getD (y ∷ l) (elim b [ true ↦ 0 | false ↦ suc (place x l) ]) 0 ≡ x
-    pick true e g ih = sym (eqb-true x y e)
-    pick false e (inl g) ih = absurd (eqb-false x y e g)
-    pick false e (inr g) ih = ih g
+place-at x l h = sym (eqb-true x (getD l (place x l) 0) (position-passes (eqb x) l 0 (place-in x l h)))
 
 -- A list with no repeats is no longer than one that has all its members.
 pub subset-length : (l m : List ℕ) → Distinct l → ((x : ℕ) → Mem x l → Mem x m) → length l ≤ length m

@@ -1,7 +1,7 @@
 -- Packed marks: what `pack` writes, `markOf` reads back.
 use mathlib.Core.Path.{_≡_}
 use mathlib.Core.List.{List, [], _∷_}
-use Prim.Native.Nat.{ℕ, zero, suc, _+_, _*_, _/_, _%_, _^_, _≤_, _<_, zero-le}
+use Prim.Native.Nat.{ℕ, zero, suc, _+_, _*_, _/_, _%_, _^_, _≤_, _<_}
 use native.Mathlib.Nat.{zero-add, mul-le-mul-left, zero-div, zero-mod, div-one, div-eq-of-lt, mod-eq-of-lt, add-mul-div-left, add-mul-mod-self-left, div-div-eq-div-mul, div-add-mod, pow-zero, pow-succ', lt-of-lt-of-le}
 use native.Mathlib.Omega.{arith}
 use lib.ListN.{length, getD, take, drop, length-take, drop-of-length-le}

@@ -1,0 +1,52 @@
+use Rattle.rules.specs.Rules.{winch, shapeChecks, tableOf}
+use Rattle.rules.proofs.Judged.{judged-append}
+use Rattle.follower.specs.Follow.{cellChecks, advanced}
+use Rattle.rules.proofs.Shape.{shape-fine}
+use borrow.Author.Needs.{needs}
+use Rattle.follower.proofs.advance.Statement.{statement}
+use Rattle.follower.proofs.advance.Tie as tie
+
+checked-requires : tie.Need-checked-requires
+checked-requires c κs = search needs
+
+enum-known-number : tie.Need-enum-known-number
+enum-known-number c = search needs
+
+refused-requires : tie.Need-refused-requires
+refused-requires c κs = search needs
+
+enum-told : tie.Need-enum-told
+enum-told c = search needs
+
+-- Rules 1 to 4 are kept: the cells are rows * events.
+advance-within-requires : tie.Need-advance-within-requires
+advance-within-requires c κs =
+    let a = c .before .before .before .before .before .args in
+    let T = tableOf (a .rows) (a .events) (a .start) (a .cells .now) (a .marks .now) in
+    shape-fine winch T (rw (← c .before .before .checked .ensures) (c .enum-told .given .1)) .all-cells
+
+returns : tie.Need-returns
+unfolding advanced
+returns c =
+    let a = c .before .before .before .before .before .before .before .args in
+    let T = tableOf (a .rows) (a .events) (a .start) (a .cells .now) (a .marks .now) in
+    rw (c .refused .ensures, judged-append (shapeChecks winch T) (cellChecks T (a .row) (a .event)), ← c .before .before .before .before .checked .ensures, c .before .before .number .given .1)
+
+returns-2 : tie.Need-returns-2
+unfolding advanced
+returns-2 c =
+    let a = c .before .before .before .before .before .before .args in
+    let T = tableOf (a .rows) (a .events) (a .start) (a .cells .now) (a .marks .now) in
+    rw (c .advance-within .ensures, judged-append (shapeChecks winch T) (cellChecks T (a .row) (a .event)), ← c .before .before .before .checked .ensures, c .before .enum-told .given .1)
+
+pub advance-spec : {M : Type 1} → statement M
+advance-spec =
+    tie.close
+    (tie.spec
+    checked-requires
+    enum-known-number
+    refused-requires
+    enum-told
+    advance-within-requires
+    returns
+    returns-2)

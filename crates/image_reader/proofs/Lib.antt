@@ -1,0 +1,5 @@
+pub mod Sections
+pub mod Order
+pub mod Accepted
+pub mod RoundTrip
+pub mod Reading

@@ -1,0 +1,37 @@
+-- What the reader's last check comes to, and the reader's three promises.
+use mathlib.Core.Path.{_≡_, refl, sym, ap, _∙_}
+use mathlib.Core.Bool.{true, false, _||_}
+use mathlib.Core.List.{List}
+use Prim.Native.Nat.{ℕ, _*_}
+use lib.Dec.{ltb}
+use lib.ListN.{length}
+use Rattle.tables.specs.Table.{markBytes}
+use Rattle.tables.specs.Lists.{over}
+use Rattle.rules.specs.declared.Limits.{Limits}
+use Rattle.images.specs.Image.{marksOf, cellsOf}
+use Rattle.image_reader.specs.Read.{imageRead, roomed, readBy, cellsIn, marksIn}
+use Rattle.image_reader.specs.declared.Read.{Read}
+use Rattle.image_reader.specs.declared.Read.the-variants as read
+
+module _ (L : Limits) (small : ℕ) (b cells marks : List ℕ) where
+  -- The answer r, with what is left in the cells and the mark bytes.
+  abbrev pub Reads : Read → List ℕ → List ℕ → Type 0
+  Reads r cells′ marks′ = (r ≡ readBy L small b (length cells) (length marks)) × (cells′ ≡ cellsIn r b cells) × (marks′ ≡ marksIn r b marks)
+
+  pub reads-refused : (r : Read) (number place : ℕ) → r ≡ imageRead L small b → r ≡ read.Refused number place → Reads r cells marks
+  unfolding readBy
+  reads-refused r number place e h = (
+    h ∙ ap (λ (u : Read). roomed u (length cells) (length marks)) (sym h ∙ e),
+    sym (ap (λ (u : Read). cellsIn u b cells) h),
+    sym (ap (λ (u : Read). marksIn u b marks) h),
+  )
+
+  module _ (rows events start : ℕ) (e : imageRead L small b ≡ read.Table rows events start) where
+    pub reads-short : (ltb (length cells) (rows * events) || ltb (length marks) (markBytes rows)) ≡ true → Reads (read.Refused 7 0) cells marks
+    unfolding readBy
+    reads-short t = (simp (e, t), refl, refl)
+
+    pub reads-table : (ltb (length cells) (rows * events) || ltb (length marks) (markBytes rows)) ≡ false
+        → Reads (read.Table rows events start) (over cells 0 (cellsOf b rows events)) (over marks 0 (marksOf b rows))
+    unfolding readBy
+    reads-table t = (simp (e, t), refl, refl)

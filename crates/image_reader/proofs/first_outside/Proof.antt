@@ -1,0 +1,70 @@
+use mathlib.Core.Path.{_≡_, sym}
+use mathlib.Core.Bool.{false}
+use Prim.Native.Nat.{ℕ, _+_, _*_, _-_, _≤_, _<_}
+use native.Mathlib.Omega.{arith}
+use borrow.Author.Count.{below-more}
+use borrow.Author.Tests.{le-leb, lt-leb}
+use lib.Dec.{leb}
+use Rattle.images.specs.Image.{numberAt}
+use Rattle.images.proofs.Numbers.{cells-position}
+use Rattle.image_reader.proofs.first_outside.Statement.{statement}
+use Rattle.image_reader.proofs.first_outside.Tie as tie
+
+abbrev Inv-loop : tie.InvT-loop
+Inv-loop image at count rows i₀ i = (i ≤ count) × ((j : ℕ) → j < i → leb rows (numberAt image (at + 2 * j)) ≡ false)
+
+abbrev μ-loop : tie.MeasureT-loop
+μ-loop image at count rows i₀ i = count - i
+
+loop-holds : tie.Need-loop-holds Inv-loop μ-loop
+loop-holds c = (omega arith, λ j h. absurd (omega arith))
+
+mul-word : tie.Need-mul-word Inv-loop μ-loop
+mul-word c = omega arith
+
+add-word : tie.Need-add-word Inv-loop μ-loop
+add-word c = omega arith
+
+word-requires : tie.Need-word-requires Inv-loop μ-loop
+word-requires c κs = omega arith
+
+returns : tie.Need-returns Inv-loop μ-loop
+returns c =
+    let a = c .before .before .before .before .before .args in
+    let l = c .before .before .before .loop in
+    sym (cells-position (a .image .now) (a .at) (a .count) (a .rows) (l .i) (omega arith) (l .inv .1)
+    (λ h. le-leb (a .rows) (numberAt (a .image .now) (a .at + 2 * l .i)) (omega (arith, c .before .word .ensures))))
+
+add-i : tie.Need-add-i Inv-loop μ-loop
+add-i c = omega arith
+
+loop-less : tie.Need-loop-less Inv-loop μ-loop
+loop-less c = omega arith
+
+loop-again : tie.Need-loop-again Inv-loop μ-loop
+loop-again c =
+    let a = c .before .before .before .before .before .args in
+    let l = c .before .before .before .loop in
+    (omega arith, below-more _ _ (l .inv .1) (lt-leb (a .rows) (numberAt (a .image .now) (a .at + 2 * l .i)) (omega (arith, c .before .word .ensures))))
+
+returns-2 : tie.Need-returns-2 Inv-loop μ-loop
+returns-2 c =
+    let a = c .before .before .before .args in
+    let l = c .before .loop in
+    sym (cells-position (a .image .now) (a .at) (a .count) (a .rows) (l .i) (omega arith) (l .inv .1) (λ h. absurd (omega arith)))
+
+pub first-outside-spec : {M : Type 1} → statement M
+first-outside-spec =
+    tie.close
+    (tie.spec
+    Inv-loop
+    μ-loop
+    loop-holds
+    mul-word
+    add-word
+    word-requires
+    returns
+    add-i
+    loop-less
+    loop-again
+    returns-2)

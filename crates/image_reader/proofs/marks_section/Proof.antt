@@ -1,0 +1,111 @@
+use mathlib.Core.Path.{sym, _∙_}
+use Prim.Native.Nat.{_+_}
+use native.Mathlib.Omega.{arith}
+use borrow.Author.Tests.{lt-ltb, le-ltb}
+use lib.ListN.{length, List·getD-eq-default}
+use Rattle.tables.specs.Table.{markBytes}
+use Rattle.rules.proofs.Judged.{spare-zero}
+use Rattle.image_reader.specs.Sections.{marksSection}
+use Rattle.image_reader.proofs.Sections.{refuses, number-got}
+use borrow.Author.Needs.{needs}
+use Rattle.image_reader.proofs.marks_section.Statement.{statement}
+use Rattle.image_reader.proofs.marks_section.Tie as tie
+
+number-requires : tie.Need-number-requires
+number-requires c κs = search needs
+
+enum-known-count : tie.Need-enum-known-count
+enum-known-count c = search needs
+
+enum-told : tie.Need-enum-told
+enum-told c = search needs
+
+returns : tie.Need-returns
+unfolding marksSection
+returns c = refuses _ _ _ _ _ (c .before .before .number .ensures) (c .enum-told .given .1)
+
+beyond-requires : tie.Need-beyond-requires
+beyond-requires c κs = search needs
+
+returns-2 : tie.Need-returns-2
+unfolding marksSection
+returns-2 c = simp (sym (c .before .before .before .before .before .number .ensures) ∙ c .before .before .before .count .given .1, sym (c .before .beyond .ensures .0) ∙ c .if1 .taken)
+
+wide-requires : tie.Need-wide-requires
+wide-requires c κs = search needs
+
+returns-3 : tie.Need-returns-3
+unfolding marksSection
+returns-3 c =
+    let a = c .before .before .before .before .before .before .before .before .before .args in
+    let g = c .before .before .before .before .before .count .given .0 in
+    simp (sym (c .before .before .before .before .before .before .before .number .ensures) ∙ c .before .before .before .before .before .count .given .1, sym (c .before .before .before .beyond .ensures .0) ∙ c .before .before .if1 .left, lt-ltb (a .small) (g .0) (omega (arith, c .before .wide .ensures)))
+
+mark-bytes-requires : tie.Need-mark-bytes-requires
+mark-bytes-requires c κs = search needs
+
+add-end : tie.Need-add-end
+add-end c =
+    let g = c .before .before .before .before .before .before .count .given .0 in
+    let n = number-got (c .before .before .before .before .before .before .before .before .before .before .args .image .now) 0 (g .0) (g .1 .0) (sym (c .before .before .before .before .before .before .before .before .number .ensures) ∙ c .before .before .before .before .before .before .count .given .1) in
+    omega (arith, c .mark-bytes .ensures, n .next-is, c .before .before .before .before .beyond .ensures .1 (c .before .before .before .if1 .left))
+
+returns-4 : tie.Need-returns-4
+unfolding marksSection
+returns-4 c =
+    let a = c .before .before .before .before .before .before .before .before .before .before .before .args in
+    let g = c .before .before .before .before .before .before .before .count .given .0 in
+    simp (sym (c .before .before .before .before .before .before .before .before .before .number .ensures) ∙ c .before .before .before .before .before .before .before .count .given .1, sym (c .before .before .before .before .before .beyond .ensures .0) ∙ c .before .before .before .before .if1 .left, le-ltb (a .small) (g .0) (omega (arith, c .before .before .before .wide .ensures)), lt-ltb (length (a .image .now)) (g .1 .0 + markBytes (g .0)) (omega (arith, c .before .mark-bytes .ensures)))
+
+add-last : tie.Need-add-last
+add-last c = search needs
+
+shared-slice-read-spare-set : tie.Need-shared-slice-read-spare-set
+shared-slice-read-spare-set c = search needs
+
+spare-set-requires : tie.Need-spare-set-requires
+spare-set-requires c κs = search needs
+
+returns-5 : tie.Need-returns-5
+unfolding marksSection
+returns-5 c =
+    let a = c .before .before .before .before .before .before .before .before .before .before .before .before .before .before .before .args in
+    let g = c .before .before .before .before .before .before .before .before .before .before .before .count .given .0 in
+    simp (sym (c .before .before .before .before .before .before .before .before .before .before .before .before .before .number .ensures) ∙ c .before .before .before .before .before .before .before .before .before .before .before .count .given .1, sym (c .before .before .before .before .before .before .before .before .before .beyond .ensures .0) ∙ c .before .before .before .before .before .before .before .before .if1 .left, le-ltb (a .small) (g .0) (omega (arith, c .before .before .before .before .before .before .before .wide .ensures)), le-ltb (length (a .image .now)) (g .1 .0 + markBytes (g .0)) (omega (arith, c .before .before .before .before .before .mark-bytes .ensures)), sym (c .before .spare-set .ensures) ∙ c .if5 .taken)
+
+returns-6 : tie.Need-returns-6
+unfolding marksSection
+returns-6 c =
+    let a = c .before .before .before .before .before .before .before .before .before .before .before .before .before .before .before .args in
+    let g = c .before .before .before .before .before .before .before .before .before .before .before .count .given .0 in
+    simp (sym (c .before .before .before .before .before .before .before .before .before .before .before .before .before .number .ensures) ∙ c .before .before .before .before .before .before .before .before .before .before .before .count .given .1, sym (c .before .before .before .before .before .before .before .before .before .beyond .ensures .0) ∙ c .before .before .before .before .before .before .before .before .if1 .left, le-ltb (a .small) (g .0) (omega (arith, c .before .before .before .before .before .before .before .wide .ensures)), le-ltb (length (a .image .now)) (g .1 .0 + markBytes (g .0)) (omega (arith, c .before .before .before .before .before .mark-bytes .ensures)), sym (c .before .spare-set .ensures) ∙ c .if5 .left, c .before .before .before .before .before .mark-bytes .ensures)
+
+returns-7 : tie.Need-returns-7
+unfolding marksSection
+returns-7 c =
+    let a = c .before .before .before .before .before .before .before .before .before .before .before .before .args in
+    let g = c .before .before .before .before .before .before .before .before .count .given .0 in
+    let z = List·getD-eq-default (a .image .now) 0 (c .if4 .left) in
+    simp (sym (c .before .before .before .before .before .before .before .before .before .before .number .ensures) ∙ c .before .before .before .before .before .before .before .before .count .given .1, sym (c .before .before .before .before .before .before .beyond .ensures .0) ∙ c .before .before .before .before .before .if1 .left, le-ltb (a .small) (g .0) (omega (arith, c .before .before .before .before .wide .ensures)), le-ltb (length (a .image .now)) (g .1 .0 + markBytes (g .0)) (omega (arith, c .before .before .mark-bytes .ensures)), z, spare-zero (g .0), c .before .before .mark-bytes .ensures)
+
+pub marks-section-spec : {M : Type 1} → statement M
+marks-section-spec =
+    tie.close
+    (tie.spec
+    number-requires
+    enum-known-count
+    enum-told
+    returns
+    beyond-requires
+    returns-2
+    wide-requires
+    returns-3
+    mark-bytes-requires
+    add-end
+    returns-4
+    add-last
+    shared-slice-read-spare-set
+    spare-set-requires
+    returns-5
+    returns-6
+    returns-7)

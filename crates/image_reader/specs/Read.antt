@@ -1,0 +1,74 @@
+-- What the image reader checks, answers and leaves in the lent cells and mark bytes.
+use mathlib.Core.Bool.{not, _||_}
+use mathlib.Core.List.{List, [], _∷_}
+use Prim.Native.Nat.{ℕ, _+_, _*_, _/_, _%_}
+use lib.Dec.{eqb, leb, ltb}
+use lib.ListN.{length, getD}
+use Rattle.tables.specs.Table.{markBytes}
+use Rattle.tables.specs.Lists.{position, over}
+use Rattle.rules.specs.Rules.{rule, judged, rowsRule, eventsRule, rowRule, spareRule}
+use Rattle.rules.specs.declared.Limits.{Limits}
+use Rattle.rules.specs.declared.Verdict.{Verdict}
+use Rattle.rules.specs.declared.Verdict.the-variants.{Fine, Refused}
+use Rattle.images.specs.Image.{numberAt, cellsAt, targetsAt, startAt, marksOf, cellsOf}
+use Rattle.image_reader.specs.declared.Read.{Read}
+use Rattle.image_reader.specs.declared.Read.the-variants as read
+
+-- The image ends before the place; place of the refusal: its length.
+abbrev pub cutRule : List ℕ → ℕ → Verdict
+cutRule b end = rule 8 (ltb (length b) end) (length b)
+
+-- A target is no row; place: the first such.
+abbrev pub targetsRule : List ℕ → ℕ → ℕ → ℕ → Verdict
+targetsRule b rows at count = rule 5 (ltb (position (leb rows) (cellsAt b at count)) count) (position (leb rows) (cellsAt b at count))
+
+-- The checks in the order of the image, of the row count, target count, start count and start that stand in it. Rows above `small` give 12.
+abbrev pub readChecks : Limits → ℕ → List ℕ → ℕ → ℕ → ℕ → ℕ → List Verdict
+readChecks L small b rows count one start =
+    cutRule b 2
+    ∷ rowsRule L rows
+    ∷ rule 12 (ltb small rows) 0
+    ∷ cutRule b (targetsAt rows)
+    ∷ spareRule rows (getD b (2 + rows / 8) 0)
+    ∷ cutRule b (targetsAt rows + 2)
+    ∷ rule 9 (not (eqb (count % rows) 0)) 0
+    ∷ eventsRule L (count / rows)
+    ∷ cutRule b (startAt rows count)
+    ∷ targetsRule b rows (targetsAt rows + 2) count
+    ∷ cutRule b (startAt rows count + 2)
+    ∷ rule 9 (not (eqb one 1)) 0
+    ∷ cutRule b (startAt rows count + 2 + 2)
+    ∷ rowRule rows start
+    ∷ rule 10 (ltb (startAt rows count + 2 + 2) (length b)) 0
+    ∷ []
+
+abbrev pub answered : Verdict → Read → Read
+answered Fine r = r
+answered (Refused number place) r = read.Refused number place
+
+-- What the image says, if no check refuses it.
+unfoldable pub imageRead : Limits → ℕ → List ℕ → Read
+imageRead L small b =
+    let rows = numberAt b 0 in
+    let count = numberAt b (targetsAt rows) in
+    let one = numberAt b (startAt rows count) in
+    let start = numberAt b (startAt rows count + 2) in
+    answered (judged (readChecks L small b rows count one start)) (read.Table rows (count / rows) start)
+
+-- Lastly 7: the lent cells or mark bytes are too few.
+abbrev pub roomed : Read → ℕ → ℕ → Read
+roomed (read.Table rows events start) cells marks = answered (rule 7 (ltb cells (rows * events) || ltb marks (markBytes rows)) 0) (read.Table rows events start)
+roomed (read.Refused number place) cells marks = read.Refused number place
+
+-- What the reader answers, with room for so many cells and mark bytes.
+unfoldable pub readBy : Limits → ℕ → List ℕ → ℕ → ℕ → Read
+readBy L small b cells marks = roomed (imageRead L small b) cells marks
+
+-- What the reader leaves in the lent cells and mark bytes.
+abbrev pub cellsIn : Read → List ℕ → List ℕ → List ℕ
+cellsIn (read.Table rows events start) b cells = over cells 0 (cellsOf b rows events)
+cellsIn (read.Refused number place) b cells = cells
+
+abbrev pub marksIn : Read → List ℕ → List ℕ → List ℕ
+marksIn (read.Table rows events start) b marks = over marks 0 (marksOf b rows)
+marksIn (read.Refused number place) b marks = marks

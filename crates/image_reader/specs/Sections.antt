@@ -1,0 +1,62 @@
+-- The reader section by section, as the code goes. proofs/Order.antt: it is the reader of Read.antt.
+use mathlib.Core.Bool.{not}
+use mathlib.Core.List.{List, [], _∷_}
+use Prim.Native.Nat.{ℕ, _+_, _*_, _/_, _%_}
+use lib.Dec.{eqb, ltb}
+use lib.ListN.{length, getD}
+use Rattle.tables.specs.Table.{markBytes}
+use Rattle.rules.specs.Rules.{rule, judged, rowsRule, eventsRule, rowRule, spareRule}
+use Rattle.rules.specs.declared.Limits.{Limits}
+use Rattle.rules.specs.declared.Verdict.{Verdict}
+use Rattle.rules.specs.declared.Verdict.the-variants.{Fine, Refused}
+use Rattle.images.specs.Image.{numberAt}
+use Rattle.image_reader.specs.Read.{cutRule, targetsRule, answered}
+use Rattle.image_reader.specs.declared.Section.{Section}
+use Rattle.image_reader.specs.declared.Section.the-variants as section
+use Rattle.image_reader.specs.declared.Read.{Read}
+use Rattle.image_reader.specs.declared.Read.the-variants as read
+
+-- What a section gives once the checks before it are made.
+abbrev pub checked : Verdict → Section → Section
+checked Fine s = s
+checked (Refused number place) s = section.Refused number place
+
+-- A section's value and next place go on to what follows; a refusal is the answer.
+abbrev pub opened : Section → (ℕ → ℕ → Section) → Section
+opened (section.Got value next) f = f value next
+opened (section.Refused number place) f = section.Refused number place
+
+abbrev pub onward : Section → (ℕ → ℕ → Read) → Read
+onward (section.Got value next) f = f value next
+onward (section.Refused number place) f = read.Refused number place
+
+-- The refusal of a section.
+abbrev pub refusalOf : Section → Read
+refusalOf (section.Refused number place) = read.Refused number place
+refusalOf (section.Got value next) = read.Refused 0 0
+
+unfoldable pub numberSection : List ℕ → ℕ → Section
+numberSection b at = checked (cutRule b (at + 2)) (section.Got (numberAt b at) (at + 2))
+
+unfoldable pub marksSection : Limits → ℕ → List ℕ → Section
+marksSection L small b =
+    opened (numberSection b 0) (λ rows at.
+    checked (judged (rowsRule L rows ∷ rule 12 (ltb small rows) 0 ∷ cutRule b (at + markBytes rows) ∷ spareRule rows (getD b (at + rows / 8) 0) ∷ []))
+    (section.Got rows (at + markBytes rows)))
+
+unfoldable pub targetsSection : Limits → List ℕ → ℕ → ℕ → Section
+targetsSection L b rows place =
+    opened (numberSection b place) (λ count at.
+    checked (judged (rule 9 (not (eqb (count % rows) 0)) 0 ∷ eventsRule L (count / rows) ∷ cutRule b (at + 2 * count) ∷ targetsRule b rows at count ∷ []))
+    (section.Got (count / rows) (at + 2 * count)))
+
+unfoldable pub startSection : List ℕ → ℕ → ℕ → Section
+startSection b rows place =
+    opened (numberSection b place) (λ count at. checked (rule 9 (not (eqb count 1)) 0)
+    (opened (numberSection b at) (λ start next. checked (rowRule rows start) (section.Got start next))))
+
+-- The sections in order, then 10: bytes follow the last.
+unfoldable pub sectionsRead : Limits → ℕ → List ℕ → Read
+sectionsRead L small b =
+    onward (marksSection L small b) (λ rows at. onward (targetsSection L b rows at) (λ events next. onward (startSection b rows next) (λ start end.
+    answered (rule 10 (ltb end (length b)) 0) (read.Table rows events start))))

@@ -1,0 +1,44 @@
+use mathlib.Core.Path.{sym}
+use Prim.Native.Nat.{_%_}
+use native.Mathlib.Omega.{arith}
+use lib.Seq.{set-out}
+use borrow.Author.Needs.{needs}
+use Rattle.marks.specs.Marks.{marked}
+use Rattle.marks.proofs.Bits.{set-bit}
+use Rattle.marks.proofs.set_mark.Statement.{statement}
+use Rattle.marks.proofs.set_mark.Tie as tie
+
+slice-read-marks : tie.Need-slice-read-marks
+slice-read-marks c = search needs
+
+cast-marks : tie.Need-cast-marks
+cast-marks c = search needs
+
+shl-marks : tie.Need-shl-marks
+shl-marks c = search needs
+
+slice-write-marks : tie.Need-slice-write-marks
+slice-write-marks c = search needs
+
+same-length : tie.Need-same-length
+same-length c = search needs
+
+returns : tie.Need-returns
+unfolding marked
+returns c = rw (set-bit _ (c .before .before .args .row % 8) (omega arith))
+
+returns-2 : tie.Need-returns-2
+unfolding marked
+returns-2 c = sym (set-out _ _ _ (omega arith))
+
+pub set-mark-spec : {M : Type 1} → statement M
+set-mark-spec =
+    tie.close
+    (tie.spec
+    slice-read-marks
+    cast-marks
+    shl-marks
+    slice-write-marks
+    same-length
+    returns
+    returns-2)

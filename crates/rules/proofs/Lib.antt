@@ -1,0 +1,3 @@
+pub mod Judged
+pub mod Checks
+pub mod Shape
