@@ -1,5 +1,7 @@
 // Marks in packed bytes: row r has the bit worth 2^(r mod 8) in byte r div 8; set means ready.
 ghost use mathlib.Core.Path.{_≡_};
+ghost use mathlib.Core.Bool.{cond};
+ghost use lib.Dec.{eqb};
 ghost use Rattle.tables.specs.Table.{markBytes, markOf};
 ghost use Rattle.marks.specs.Marks.{marked, spareSet};
 
@@ -43,6 +45,17 @@ pub fn clear_mark(marks: &mut [u8], row: usize)
     if at < marks.len() {
         marks[at] = marks[at] & !(1 << (row % 8));
     }
+}
+
+// Gives a row its mark: 1 is ready, anything else wait.
+pub fn put_mark(marks: &mut [u8], row: usize, mark: u8)
+    ensures { λ r. ⌜ now (marks .exit) ≡ marked (now (marks .entry)) row (cond (eqb mark 1) 1 0) ⌝ }
+{
+    if mark == 1 {
+        set_mark(marks, row);
+        return;
+    }
+    clear_mark(marks, row);
 }
 
 // Whether a bit of the last mark byte is set that belongs to no row.

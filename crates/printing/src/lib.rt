@@ -12,6 +12,11 @@ pub fn print_number(n: usize) {
     io::print_decimal(STDOUT_FILENO, n as u64);
 }
 
+// A number that begins a line.
+pub fn print_first(n: usize) {
+    io::print_decimal(STDOUT_FILENO, n as u64);
+}
+
 // A refusal, on a line of its own.
 pub fn print_refusal(number: usize, place: usize) {
     print_text(b"refused");

@@ -1,23 +1,24 @@
 -- The order of the reached rows, and the folding that follows from it.
-use mathlib.Core.Path.{_≡_, refl, sym, ap, subst}
+use mathlib.Core.Path.{_≡_, refl, sym, ap, subst, _∙_}
 use mathlib.Core.Bool.{Bool, true}
 use mathlib.Core.List.{[], _++_}
 use mathlib.Core.Logic.{_⊎_, inl, inr, _≢_}
 use Prim.Native.Nat.{ℕ, zero, suc, _<_}
 use native.Mathlib.Omega.{arith}
 use borrow.Author.Tests.{eqb-true, eq-eqb}
+use lib.Dec.{eqb}
 use Rattle.automata.specs.Runs.{Events, Machine, Sound, Light, Len, len, endless}
 use Rattle.tables.specs.Lengths.{reached, depth}
-use Rattle.automata.proofs.Tests.{clash, and-left, and-right, and-make, last-or-less}
+use Rattle.automata.proofs.Tests.{either, clash, and-left, and-right, and-make, last-or-less}
 use Rattle.automata.proofs.Lists.{Mem, Pairwise}
 use Rattle.automata.proofs.Runs.{Reach, way-in}
 use Rattle.tables.proofs.Lengths.{Below, reached-is, reached-found, depth-is, depth-below}
 use Rattle.automata.proofs.Folding.{_⊑_, Folding}
-use Rattle.tables.specs.Lists.{tabulate}
+use Rattle.tables.specs.Lists.{tabulate, some}
 use Rattle.tables.specs.Table.{offset}
 use Rattle.tables.specs.Reduction.{sameLen, level, levels, order, similar, kept, fold}
 use Rattle.tables.proofs.Lists.{mem-left, mem-right, mem-cases, mem-tabulate, tabulate-mem, filter-mem, mem-filter, pairwise-append, pairwise-all, pairwise-cases, pairwise-map}
-use Rattle.tables.proofs.Lists.{first-is, Apart, sift-all, sift-apart, Cover, ordered-nil, sift-ordered, sift-covers}
+use Rattle.tables.proofs.Lists.{some-has, has-some, first-is, Apart, sift-all, sift-apart, Cover, ordered-nil, sift-ordered, sift-covers}
 use Rattle.tables.proofs.Similar.{similar-holds, similar-found, similar-refl, similar-sym}
 
 same-len : (d e : Len) → sameLen d e ≡ true → d ≡ e
@@ -172,3 +173,19 @@ module _ {E : Events} {M : Machine} (s : Sound E M) (z : Light E) (k : ℕ) wher
         similar-holds s z k q (fold E M (offset k) q) (h .0) (kept-order (fold E M (offset k) q) (i .is-kept) .0) (i .alike);
     fold-deep = λ q r. let h = row-of q r in into q (h .0) (h .1) .deeper;
   }
+
+  -- A reached row is kept just if it folds into itself.
+  pub kept-own : (q : ℕ) → q < M .rows → reached E M q ≡ true → some (eqb q) (kept E M (offset k)) ≡ eqb (fold E M (offset k) q) q
+  kept-own q h u =
+      let i = into q h u in
+      let p : ℕ = fold E M (offset k) q in
+      elim (either (some (eqb q) (kept E M (offset k)))) [
+        | inl t ↦
+            let r = some-has (eqb q) (kept E M (offset k)) t in
+            let own = subst (λ (x : ℕ). Mem x (kept E M (offset k))) (sym (eqb-true q (r .0) (r .2))) (r .1) in
+            t ∙ sym (eq-eqb p q (sym (apart-one q p own (i .is-kept) (i .alike))))
+        | inr f ↦ elim (either (eqb p q)) [
+          | inl t ↦ clash (has-some (eqb q) (kept E M (offset k)) p (i .is-kept) (eq-eqb q p (sym (eqb-true p q t)))) f
+          | inr g ↦ f ∙ sym g
+        ]
+      ]

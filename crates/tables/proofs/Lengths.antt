@@ -1,13 +1,13 @@
 -- `distance` and `depth` are what document 01 says of runs; both are below the number of rows where they are finite.
 use mathlib.Core.Path.{_≡_, refl, sym, ap, subst, _∙_}
 use mathlib.Core.List.{List, [], _∷_}
-use mathlib.Core.Bool.{Bool, true, false, cond}
+use mathlib.Core.Bool.{Bool, true, false, not, cond}
 use mathlib.Core.Logic.{_⊎_, inl, inr}
 use Prim.Native.Nat.{ℕ, zero, suc, _+_, _-_, _≤_, _<_}
 use native.Mathlib.Omega.{arith}
 use native.Mathlib.Decide.{decLe}
 use lib.Dec.{eqb}
-use borrow.Author.Tests.{eqb-true, eq-eqb, ne-eqb, lt-ltb, le-ltb}
+use borrow.Author.Tests.{eqb-true, eqb-false, eq-eqb, ne-eqb, lt-ltb, le-ltb, not-false}
 use Rattle.automata.specs.Runs.{Events, Machine, Sound, Light, Run, size, after, Near, Leads, Len, len, endless, IsDistance, IsDepth, Unreached}
 use Rattle.automata.specs.Nearness.{near}
 use Rattle.tables.specs.Lengths.{least, distance, beside, only, sink, lead, isZero, oneLess, reached, depth}
@@ -225,3 +225,33 @@ depth-below E M q h = pick (distance E (beside (only M q) sink) (M .start) (M .r
 
 pub finite-depth : {E : Events} {M : Machine} → Sound E M → Light E → (q : ℕ) → q < M .rows → Reach E M q 0 → (x : Len) → IsDepth E M q x → Below (M .rows) x
 finite-depth {E} {M} s z q hq r x h = subst (Below (M .rows)) (depth-one E M q (depth E M q) x (depth-is s z q hq r) h) (depth-below E M q (omega arith))
+
+-- What the lead of a row is, by whether it is reached and by its depth.
+pub lead-unreached : (E : Events) (M : Machine) (q : ℕ) → reached E M q ≡ false → lead E M q ≡ len 0
+unfolding reached
+lead-unreached E M q = pick (lead E M q)
+  where
+    pick : (x : Len) → not (isZero x) ≡ false → x ≡ len 0
+    pick (len L) e = ap len (eqb-true L 0 (not-false (eqb L 0) e))
+    pick endless e = clash refl e
+
+pub lead-reached : (E : Events) (M : Machine) (q d : ℕ) → reached E M q ≡ true → depth E M q ≡ len d → lead E M q ≡ len (suc d)
+unfolding reached depth
+lead-reached E M q d = pick (lead E M q)
+  where
+    one-more : (L : ℕ) → ¬ (L ≡ 0) → _≡_ {A = Len} (len (L - 1)) (len d) → L ≡ suc d
+    one-more L h e =
+        let g : L - 1 ≡ d = cc in
+        omega arith
+
+    pick : (x : Len) → not (isZero x) ≡ true → oneLess x ≡ len d → x ≡ len (suc d)
+    pick (len L) e g = ap len (one-more L (eqb-false L 0 (flip-true (eqb L 0) e)) g)
+    pick endless e g = let z : _≡_ {A = ℕ} 0 1 = cc in absurd (omega arith)
+
+pub lead-endless : (E : Events) (M : Machine) (q : ℕ) → depth E M q ≡ endless → lead E M q ≡ endless
+unfolding depth
+lead-endless E M q = pick (lead E M q)
+  where
+    pick : (x : Len) → oneLess x ≡ endless → x ≡ endless
+    pick (len L) e = let z : _≡_ {A = ℕ} 0 1 = cc in absurd (omega arith)
+    pick endless e = refl

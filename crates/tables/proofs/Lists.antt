@@ -30,6 +30,12 @@ tabulate-all (suc n) f (suc i) d out = tabulate-all n (λ j. f (suc j)) i d (λ 
 pub tabulate-at {ℓ} : {A : Type ℓ} (n : ℕ) (f : ℕ → A) (i : ℕ) (d : A) → i < n → getD (tabulate n f) i d ≡ f i
 tabulate-at n f i d h = tabulate-all n f i d (λ g. absurd (omega arith))
 
+-- One more at the end.
+pub tabulate-more {ℓ} : {A : Type ℓ} (n : ℕ) (f : ℕ → A) → tabulate (suc n) f ≡ tabulate n f ++ (f n ∷ [])
+unfolding tabulate
+tabulate-more zero f = refl
+tabulate-more {A} (suc n) f = ap (λ (l : List A). f 0 ∷ l) (tabulate-more n (λ i. f (suc i)))
+
 pub tabulate-same {ℓ} : {A : Type ℓ} (n : ℕ) (f g : ℕ → A) → ((i : ℕ) → i < n → f i ≡ g i) → tabulate n f ≡ tabulate n g
 unfolding tabulate
 tabulate-same zero f g h = refl

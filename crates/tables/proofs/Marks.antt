@@ -1,14 +1,17 @@
 -- Packed marks: what `pack` writes, `markOf` reads back.
-use mathlib.Core.Path.{_≡_}
+use mathlib.Core.Path.{_≡_, sym, ap, _∙_}
 use mathlib.Core.List.{List, [], _∷_}
 use Prim.Native.Nat.{ℕ, zero, suc, _+_, _*_, _/_, _%_, _^_, _≤_, _<_}
 use native.Mathlib.Nat.{zero-add, mul-le-mul-left, zero-div, zero-mod, div-one, div-eq-of-lt, mod-eq-of-lt, add-mul-div-left, add-mul-mod-self-left, div-div-eq-div-mul, div-add-mod, pow-zero, pow-succ', lt-of-lt-of-le}
 use native.Mathlib.Omega.{arith}
+use native.Mathlib.Decide.{decLt}
 use lib.ListN.{length, getD, take, drop, length-take, drop-of-length-le}
-use lib.Seq.{getD-take, getD-drop}
+use lib.Seq.{getD-take, getD-drop, ext-getD}
 use lib.Pow.{pow-mono}
 use Rattle.tables.specs.Table.{markBytes, markOf, digits, pack}
+use Rattle.tables.specs.Lists.{over}
 use Rattle.tables.proofs.Lists.{tabulate-length, tabulate-all}
+use Rattle.tables.proofs.Over.{over-length, over-inside, over-behind}
 
 pub mark-small : (marks : List ℕ) (r : ℕ) → markOf marks r ≤ 1
 mark-small marks r = omega arith
@@ -60,3 +63,39 @@ module _ (l : List ℕ) (small : (i : ℕ) → getD l i 0 < 2) where
 
   pub pack-bytes : (i : ℕ) → getD (pack l) i 0 < 256
   pack-bytes i = rw pack-at (lt-of-lt-of-le (digits-below 2 (omega arith) _ (part-small (8 * i))) (pow-mono {j = 8} (rw length-take (omega arith))))
+
+-- ---- marks written one by one
+
+-- Numbers of n bits are equal if their bits are.
+bits-same : (n b c : ℕ) → b < 2 ^ n → c < 2 ^ n → ((k : ℕ) → k < n → b / 2 ^ k % 2 ≡ c / 2 ^ k % 2) → b ≡ c
+bits-same zero b c hb hc h = omega arith
+bits-same (suc n) b c hb hc h =
+    let p = pow-succ' 2 n in
+    let low : b % 2 ≡ c % 2 = sym (ap (λ (x : ℕ). x % 2) (div-one b)) ∙ h 0 (omega arith) ∙ ap (λ (x : ℕ). x % 2) (div-one c) in
+    let high : b / 2 ≡ c / 2 = bits-same n (b / 2) (c / 2) (omega arith) (omega arith) (λ k l.
+    rw (div-div-eq-div-mul b 2 (2 ^ k), div-div-eq-div-mul c 2 (2 ^ k), ← pow-succ' 2 k) (h (suc k) (omega arith))) in
+    omega arith
+
+-- The bit of a byte as the mark of a row.
+byte-bit : (marks : List ℕ) (j k : ℕ) → k < 8 → getD marks j 0 / 2 ^ k % 2 ≡ markOf marks (8 * j + k)
+byte-bit marks j k h =
+    let byte : (8 * j + k) / 8 ≡ j = omega arith in
+    let bit : (8 * j + k) % 8 ≡ k = omega arith in
+    rw (byte, bit)
+
+-- Bytes whose marks are those of l, and beyond them what they were, are the packed marks of l written over.
+pub pack-over : (l d e : List ℕ) → ((i : ℕ) → getD l i 0 < 2) → ((i : ℕ) → getD d i 0 < 256) → ((i : ℕ) → getD e i 0 < 256) → length e ≡ length d
+    → markBytes (length l) ≤ length d → ((r : ℕ) → r < 8 * markBytes (length l) → markOf e r ≡ getD l r 0)
+    → ((r : ℕ) → 8 * markBytes (length l) ≤ r → markOf e r ≡ markOf d r) → e ≡ over d 0 (pack l)
+pack-over l d e small hd he same fits here beyond =
+    let n = pack-length l in
+    let inside : 0 + length (pack l) ≤ length d = omega arith in
+    ext-getD 0 e (over d 0 (pack l)) (same ∙ sym (over-length d 0 (pack l) inside)) (λ j hj. elim (decLt j (markBytes (length l))) [
+      | yes h ↦
+          bits-same 8 (getD e j 0) (getD (pack l) j 0) (he j) (pack-bytes l small j)
+          (λ k hk. byte-bit e j k hk ∙ here (8 * j + k) (omega arith) ∙ sym (pack-mark l small (8 * j + k)) ∙ sym (byte-bit (pack l) j k hk))
+          ∙ sym (over-inside d 0 (pack l) inside j 0 (omega arith)) ∙ ap (λ (i : ℕ). getD (over d 0 (pack l)) i 0) (zero-add j)
+      | no h ↦
+          bits-same 8 (getD e j 0) (getD d j 0) (he j) (hd j) (λ k hk. byte-bit e j k hk ∙ beyond (8 * j + k) (omega arith) ∙ sym (byte-bit d j k hk))
+          ∙ sym (over-behind d 0 (pack l) inside j 0 (omega arith))
+    ])

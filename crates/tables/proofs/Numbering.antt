@@ -1,8 +1,8 @@
 -- The breadth-first numbering: it begins with the start, has no repeats, and is closed under every event.
 use mathlib.Core.Path.{_≡_, refl, sym, ap, subst, _∙_}
-use mathlib.Core.List.{List, [], _∷_, _++_}
+use mathlib.Core.List.{List, [], _∷_, _++_, map}
 use mathlib.Core.Logic.{_⊎_, inl, inr, _≢_}
-use Prim.Native.Nat.{ℕ, zero, suc, _≤_, _<_}
+use Prim.Native.Nat.{ℕ, zero, suc, _*_, _/_, _%_, _≤_, _<_}
 use native.Mathlib.Omega.{arith}
 use native.Mathlib.Decide.{decLe, le-ind}
 use lib.Dec.{eqb}
@@ -12,9 +12,10 @@ use Rattle.automata.specs.Runs.{Events, Machine, Run, after, Leads}
 use Rattle.automata.proofs.Tests.{last-or-less}
 use Rattle.automata.proofs.Lists.{Mem, Pairwise, Distinct}
 use Rattle.automata.proofs.Folding.{folded}
-use Rattle.tables.specs.Lists.{tabulate, sift}
-use Rattle.tables.specs.Reduction.{met, numbering}
-use Rattle.tables.proofs.Lists.{mem-left, mem-at, read-mem, mem-tabulate, tabulate-mem, has-some, pairwise-all, pairwise-map, subset-length}
+use Rattle.tables.specs.Lists.{tabulate, place, sift}
+use Rattle.tables.specs.Table.{Table, pack}
+use Rattle.tables.specs.Reduction.{met, numbering, number, renumbered}
+use Rattle.tables.proofs.Lists.{tabulate-same, mem-left, mem-at, read-mem, mem-tabulate, tabulate-mem, has-some, pairwise-all, pairwise-map, subset-length}
 use Rattle.tables.proofs.Lists.{Apart, sift-more, sift-all, sift-apart, sift-none, sift-covers}
 
 module _ (E : Events) (M : Machine) (f : ℕ → ℕ) where
@@ -135,6 +136,13 @@ module _ (E : Events) (M : Machine) (f : ℕ → ℕ) where
     unfolding numbering
     met-rests i h = le-ind (λ j. met E M f j ≡ met E M f (M .rows)) refl (λ j l e. closed-stays j (subst Closed (sym e) numbering-closed) ∙ e) i h
 
+    -- Where all that are met have been gone through, nothing more is met.
+    pub met-stops : (i : ℕ) → i ≤ M .rows → length (met E M f i) ≤ i → numbering E M f ≡ met E M f i
+    unfolding numbering
+    met-stops i h g =
+        let c = all-gone i g (gone i) in
+        le-ind (λ j. met E M f j ≡ met E M f i) refl (λ j l e. closed-stays j (subst Closed (sym e) c) ∙ e) (M .rows) h
+
     -- Every row that the folded machine comes to is numbered.
     pub after-numbered : (w : List ℕ) (x : ℕ) → Run E w → Mem x (numbering E M f) → Mem (after (folded M f) x w) (numbering E M f)
     after-numbered [] x hw h = h
@@ -153,3 +161,28 @@ module _ (E : Events) (M : Machine) (f : ℕ → ℕ) where
           let up = subset-length kept (numbering E M f) dk kept-numbered in
           let down = subset-length (numbering E M f) kept numbering-distinct numbering-kept in
           omega arith
+
+-- The numbering and the new table depend on the folding of the start and of targets only.
+module _ (E : Events) (M : Machine) (f g : ℕ → ℕ) (at-start : f (M .start) ≡ g (M .start)) (at-target : (x a : ℕ) → f (M .target x a) ≡ g (M .target x a)) where
+  met-same : (i : ℕ) → met E M f i ≡ met E M g i
+  unfolding met
+  met-same zero = ap (λ (x : ℕ). x ∷ []) at-start
+  met-same (suc i) =
+      let l = met E M g i in
+      ap (λ (m : List ℕ). sift eqb m (targets E M f m i)) (met-same i)
+      ∙ ap (sift eqb l) (tabulate-same (E .count) _ _ (λ a h. at-target _ a ∙ ap (λ (x : ℕ). g (M .target (getD l i x) a)) at-start))
+
+  pub number-same : (q : ℕ) → f q ≡ g q → number E M f q ≡ number E M g q
+  unfolding number numbering
+  number-same q e = ap (λ (x : ℕ). place x (met E M f (M .rows))) e ∙ ap (place (g q)) (met-same (M .rows))
+
+  pub renumbered-same : renumbered E M f ≡ renumbered E M g
+  unfolding renumbered numbering
+  renumbered-same =
+      let l = met E M f (M .rows) in
+      let m = met E M g (M .rows) in
+      ap (λ (c : List ℕ). table l c) (tabulate-same (length l * E .count) _ _ (λ c h. number-same _ (at-target _ _)))
+      ∙ ap (λ (k : List ℕ). table k (tabulate (length k * E .count) (λ c. number E M g (M .target (getD k (c / E .count) 0) (c % E .count))))) (met-same (M .rows))
+    where
+      table : List ℕ → List ℕ → Table
+      table l c = record { rows = length l; events = E .count; start = 0; cells = c; marks = pack (map (M .mark) l) }

@@ -1,11 +1,13 @@
 -- Laws of a buffer that is written over from some place on.
-use mathlib.Core.Path.{_≡_, sym, ap, _∙_}
+use mathlib.Core.Path.{_≡_, sym, ap, subst, _∙_}
 use mathlib.Core.List.{List, [], _∷_, _++_, append-assoc, append-nil}
-use Prim.Native.Nat.{ℕ, suc, _+_, _≤_, _<_}
+use Prim.Native.Nat.{ℕ, suc, _+_, _-_, _≤_, _<_}
 use native.Mathlib.Omega.{arith}
-use lib.ListN.{length, getD, take, drop, set, length-append, length-drop, take-append-drop}
-use lib.Seq.{length-take-le, take-at, drop-at, take-suc, take-all, drop-drop, set-split, append-snoc}
-use Rattle.tables.specs.Lists.{over}
+use native.Mathlib.Decide.{decLt}
+use lib.ListN.{length, getD, take, drop, set, length-append, length-drop, take-append-drop, List·getD-append}
+use lib.Seq.{length-take-le, take-add, take-append-seam, getD-take, getD-drop, take-at, drop-at, take-suc, take-all, drop-drop, set-split, append-snoc, ext-getD}
+use Rattle.tables.specs.Lists.{over, tabulate}
+use Rattle.tables.proofs.Lists.{tabulate-length, tabulate-at}
 
 pub over-none : (d : List ℕ) (at : ℕ) → over d at [] ≡ d
 unfolding over
@@ -76,3 +78,138 @@ pub over-then : (d e f s t : List ℕ) (n : ℕ) → e ≡ over d 0 s → n ≡ 
 over-then d e f s t n he hn fits hf =
     let m : n ≡ 0 + length s = omega arith in
     hf ∙ ap (λ (x : List ℕ). over x n t) he ∙ ap (λ (k : ℕ). over (over d 0 s) k t) m ∙ over-over d 0 s (omega arith) t
+
+-- What is read inside of what was written, before it and behind it.
+module _ (d : List ℕ) (at : ℕ) (s : List ℕ) (fits : at + length s ≤ length d) where
+  pub over-part : take (length s) (drop at (over d at s)) ≡ s
+  unfolding over
+  over-part =
+      let h : length (take at d) ≡ at = length-take-le at d (omega arith) in
+      ap (λ (l : List ℕ). take (length s) (drop at l)) (append-assoc (take at d) s (drop (at + length s) d))
+      ∙ ap (take (length s)) (drop-at (take at d) (s ++ drop (at + length s) d) at h)
+      ∙ take-append-seam s (drop (at + length s) d)
+
+  pub over-inside : (i x : ℕ) → i < length s → getD (over d at s) (at + i) x ≡ getD s i x
+  over-inside i x h =
+      sym (getD-drop at (over d at s) i x) ∙ sym (getD-take (length s) (drop at (over d at s)) i x h) ∙ ap (λ (l : List ℕ). getD l i x) over-part
+
+  pub over-before : (i x : ℕ) → i < at → getD (over d at s) i x ≡ getD d i x
+  unfolding over
+  over-before i x h =
+      let n : length (take at d) ≡ at = length-take-le at d (omega arith) in
+      ap (λ (l : List ℕ). getD l i x) (append-assoc (take at d) s (drop (at + length s) d))
+      ∙ List·getD-append (take at d) (s ++ drop (at + length s) d) x i (omega arith) ∙ getD-take at d i x h
+
+  pub over-behind : (i x : ℕ) → at + length s ≤ i → getD (over d at s) i x ≡ getD d i x
+  over-behind i x h =
+      let e : at + length s + (i - (at + length s)) ≡ i = omega arith in
+      ap (λ (k : ℕ). getD (over d at s) k x) (sym e) ∙ sym (getD-drop (at + length s) (over d at s) (i - (at + length s)) x)
+      ∙ ap (λ (l : List ℕ). getD l (i - (at + length s)) x) (drop-over d at s fits)
+      ∙ getD-drop (at + length s) d (i - (at + length s)) x ∙ ap (λ (k : ℕ). getD d k x) e
+
+  -- Written over again from the same place, by as much or more.
+  pub over-again : (t : List ℕ) → length s ≤ length t → over (over d at s) at t ≡ over d at t
+  unfolding over
+  over-again t h =
+      let e : at + length s + (length t - length s) ≡ at + length t = omega arith in
+      let n : length (take at d) ≡ at = length-take-le at d (omega arith) in
+      let front : take at (over d at s) ≡ take at d
+      = ap (take at) (append-assoc (take at d) s (drop (at + length s) d)) ∙ take-at (take at d) (s ++ drop (at + length s) d) at n in
+      let back : drop (at + length t) (over d at s) ≡ drop (at + length t) d
+      = ap (λ (k : ℕ). drop k (over d at s)) (sym e) ∙ sym (drop-drop (length t - length s) (at + length s) (over d at s))
+      ∙ ap (drop (length t - length s)) (drop-over d at s fits) ∙ drop-drop (length t - length s) (at + length s) d ∙ ap (λ (k : ℕ). drop k d) e in
+      rw (front, back)
+
+-- What stands before it, as a list.
+pub take-before-over : (d : List ℕ) (at : ℕ) (s : List ℕ) → at + length s ≤ length d → take at (over d at s) ≡ take at d
+unfolding over
+take-before-over d at s fits =
+    let n : length (take at d) ≡ at = length-take-le at d (omega arith) in
+    ap (take at) (append-assoc (take at d) s (drop (at + length s) d)) ∙ take-at (take at d) (s ++ drop (at + length s) d) at n
+
+-- A list with f of each number below n from place `at` on, and elsewhere as before.
+pub over-tabulate : (s s′ : List ℕ) (at n : ℕ) (f : ℕ → ℕ) → length s′ ≡ length s → at + n ≤ length s
+    → ((k : ℕ) → k < at → getD s′ k 0 ≡ getD s k 0) → ((i : ℕ) → i < n → getD s′ (at + i) 0 ≡ f i) → ((k : ℕ) → at + n ≤ k → getD s′ k 0 ≡ getD s k 0)
+    → s′ ≡ over s at (tabulate n f)
+over-tabulate s s′ at n f e room before here behind = ext-getD 0 s′ (over s at t) (e ∙ sym (over-length s at t fits)) same
+  where
+    t : List ℕ
+    t = tabulate n f
+
+    count : length t ≡ n
+    count = tabulate-length n f
+
+    fits : at + length t ≤ length s
+    fits = omega (arith, count)
+
+    same-at : (k i : ℕ) → i < n → k ≡ at + i → getD s′ k 0 ≡ getD (over s at t) k 0
+    same-at k i h g = rw g (here i h ∙ sym (tabulate-at n f i 0 h) ∙ sym (over-inside s at t fits i 0 (omega (arith, count))))
+
+    same : (k : ℕ) → k < length s′ → getD s′ k 0 ≡ getD (over s at t) k 0
+    same k h = elim (decLt k at) [
+      | yes l ↦ before k l ∙ sym (over-before s at t fits k 0 l)
+      | no l ↦ elim (decLt k (at + n)) [
+        | yes g ↦ same-at k (k - at) (omega arith) (omega arith)
+        | no g ↦ behind k (omega arith) ∙ sym (over-behind s at t fits k 0 (omega (arith, count)))
+      ]
+    ]
+
+-- Written at two places that do not meet, in either order.
+pub over-swap : (d : List ℕ) (at : ℕ) (s : List ℕ) (to : ℕ) (t : List ℕ) → to + length t ≤ at → at + length s ≤ length d → over (over d at s) to t ≡ over (over d to t) at s
+over-swap d at s to t apart fits =
+    let ds = over-length d at s fits in
+    let near : to + length t ≤ length d = omega arith in
+    let dt = over-length d to t near in
+    let far : at + length s ≤ length (over d to t) = omega arith in
+    let back : to + length t ≤ length (over d at s) = omega arith in
+    let el = over-length (over d at s) to t back in
+    ext-getD 0 (over (over d at s) to t) (over (over d to t) at s) (el ∙ ds ∙ sym dt ∙ sym (over-length (over d to t) at s far)) (λ i h. elim (decLt i at) [
+      | yes l ↦ elim (decLt i to) [
+        | yes m ↦ over-before (over d at s) to t back i 0 m ∙ over-before d at s fits i 0 l ∙ sym (over-before d to t near i 0 m) ∙ sym (over-before (over d to t) at s far i 0 l)
+        | no m ↦ elim (decLt i (to + length t)) [
+          | yes g ↦ inside i l (omega arith) g back near far
+          | no g ↦ over-behind (over d at s) to t back i 0 (omega arith) ∙ over-before d at s fits i 0 l ∙ sym (over-behind d to t near i 0 (omega arith)) ∙ sym (over-before (over d to t) at s far i 0 l)
+        ]
+      ]
+      | no l ↦ elim (decLt i (at + length s)) [
+        | yes g ↦ over-behind (over d at s) to t back i 0 (omega arith) ∙ within i (omega arith) g far
+        | no g ↦ over-behind (over d at s) to t back i 0 (omega arith) ∙ over-behind d at s fits i 0 (omega arith) ∙ sym (over-behind d to t near i 0 (omega arith)) ∙ sym (over-behind (over d to t) at s far i 0 (omega arith))
+      ]
+    ])
+  where
+    inside : (i : ℕ) → i < at → to ≤ i → i < to + length t → to + length t ≤ length (over d at s) → to + length t ≤ length d → at + length s ≤ length (over d to t)
+        → getD (over (over d at s) to t) i 0 ≡ getD (over (over d to t) at s) i 0
+    inside i l m g back near far =
+        let e : to + (i - to) ≡ i = omega arith in
+        subst (λ (j : ℕ). getD (over (over d at s) to t) j 0 ≡ getD (over (over d to t) at s) j 0) e
+        (over-inside (over d at s) to t back (i - to) 0 (omega arith) ∙ sym (over-inside d to t near (i - to) 0 (omega arith)) ∙ sym (over-before (over d to t) at s far (to + (i - to)) 0 (omega arith)))
+
+    within : (i : ℕ) → at ≤ i → i < at + length s → at + length s ≤ length (over d to t) → getD (over d at s) i 0 ≡ getD (over (over d to t) at s) i 0
+    within i l g far =
+        let e : at + (i - at) ≡ i = omega arith in
+        subst (λ (j : ℕ). getD (over d at s) j 0 ≡ getD (over (over d to t) at s) j 0) e
+        (over-inside d at s fits (i - at) 0 (omega arith) ∙ sym (over-inside (over d to t) at s far (i - at) 0 (omega arith)))
+
+-- ---- a part of a list
+
+pub part-length : (s : List ℕ) (at count : ℕ) → at + count ≤ length s → length (take count (drop at s)) ≡ count
+part-length s at count fits = length-take-le count (drop at s) (omega (arith, length-drop at s))
+
+pub part-at : (s : List ℕ) (at count i : ℕ) → i < count → getD (take count (drop at s)) i 0 ≡ getD s (at + i) 0
+part-at s at count i h = getD-take count (drop at s) i 0 h ∙ getD-drop at s i 0
+
+-- Written over itself it is what it was.
+pub part-over : (s : List ℕ) (at count : ℕ) → at + count ≤ length s → over s at (take count (drop at s)) ≡ s
+unfolding over
+part-over s at count fits =
+    let n : at + length (take count (drop at s)) ≡ at + count = omega (arith, part-length s at count fits) in
+    rw (n, sym (take-add at count s)) (take-append-drop (at + count) s)
+
+-- What is written behind it does not change it.
+pub part-before : (d : List ℕ) (at count to : ℕ) (s : List ℕ) → at + count ≤ to → to + length s ≤ length d → take count (drop at (over d to s)) ≡ take count (drop at d)
+part-before d at count to s apart fits =
+    let inside : at + count ≤ length (over d to s) = omega (arith, over-length d to s fits) in
+    let size = part-length (over d to s) at count inside in
+    ext-getD 0 (take count (drop at (over d to s))) (take count (drop at d)) (size ∙ sym (part-length d at count (omega arith))) (λ i h.
+    let g : i < count = omega arith in
+    part-at (over d to s) at count i g ∙ over-before d to s fits (at + i) 0 (omega arith) ∙ sym (part-at d at count i g))

@@ -6,6 +6,7 @@ use mathlib.Core.Logic.{_↔_}
 use Prim.Native.Nat.{ℕ, _+_, _*_, _≤_, _<_}
 use native.Mathlib.Omega.{arith}
 use native.Mathlib.Decide.{ℕ-discrete}
+use lib.Dec.{eqb}
 use lib.ListN.{length}
 use Rattle.automata.specs.Runs.{Events, Machine, Run, size, after, shows, AgreeFrom, Len, IsDistance, IsDepth, Unreached}
 use Rattle.tables.specs.Lengths.{distance, depth, reached}
@@ -13,8 +14,10 @@ use Rattle.automata.proofs.Lists.{Mem}
 use Rattle.automata.proofs.Runs.{Reach, near-up}
 use Rattle.tables.proofs.Lengths.{Below, distance-is, finite-distance, depth-is, finite-depth, reached-is, unreached-is}
 use Rattle.tables.specs.Table.{Table, Offset, offset, none, Valid, Agrees, Fewest, machine, eventsOf, unit}
+use Rattle.tables.specs.Lists.{some}
 use Rattle.tables.specs.Reduction.{kept, fold, numbering, renumbered, reduced, records}
 use Rattle.tables.proofs.Marks.{mark-small}
+use Rattle.tables.proofs.Folds.{kept-own}
 use Rattle.tables.proofs.Reduced.{sound-of, kept-in, count-kept, reduced-valid, reduced-agrees, reduced-fewest}
 use Rattle.tables.proofs.NoOffset.{kept-none, fold-none, reduced-none, records-none}
 use Rattle.tables.proofs.Canonical.{reduced-same}
@@ -91,6 +94,14 @@ module _ (weight : ℕ → ℕ) (light : (a : ℕ) → weight a ≤ 1) (T : Tabl
   rows-kept none = ap (λ (U : Table). U .rows) (at-none (2 * T .rows) (omega arith)) ∙ count-kept weight light T v (2 * T .rows)
       ∙ ap length (sym (kept-none E M (2 * T .rows) (v .some-row) (omega arith)))
 
+  -- A reached row is kept just if it folds into itself.
+  pub kept-itself : (k : Offset) (q : ℕ) → q < T .rows → reached E M q ≡ true → some (eqb q) (kept E M k) ≡ eqb (fold E M k q) q
+  kept-itself (offset k) q h u = kept-own (sound-of weight T T refl v) (record { at-most = light }) k q h u
+  kept-itself none q h u =
+      let k : ℕ = 2 * T .rows in
+      ap (some (eqb q)) (kept-none E M k (v .some-row) (omega arith)) ∙ kept-own (sound-of weight T T refl v) (record { at-most = light }) k q h u
+      ∙ ap (λ (f : ℕ → ℕ). eqb (f q) q) (sym (fold-none E M k (v .some-row) (omega arith)))
+
   pub start-zero : (k : Offset) → reduced weight k T .start ≡ 0
   unfolding reduced renumbered
   start-zero k = refl
@@ -130,7 +141,7 @@ unit-size : (n : ℕ) (w : List ℕ) → size (record { count = n; weight = unit
 unit-size n [] = refl
 unit-size n (a ∷ w) = omega (arith, unit-size n w)
 
-unit-light : (a : ℕ) → unit a ≤ 1
+pub unit-light : (a : ℕ) → unit a ≤ 1
 unit-light a = omega arith
 
 ready-from : (L : ℕ) (T U : Table) → AgreeFrom (eventsOf unit T) L (machine T) (machine U) → ReadyFrom L T U

@@ -1,0 +1,4 @@
+pub mod Moves
+pub mod AtRest
+pub mod Found
+pub mod Plumbed

@@ -1,0 +1,61 @@
+use native.Mathlib.Omega.{arith}
+use borrow.Author.Needs.{needs}
+use Rattle.rules.specs.Rules.{tableOf}
+use Rattle.depths.proofs.Found.{ready}
+use Rattle.depths.proofs.Plumbed.{plumbed-refused, plumbed-done}
+use Rattle.depths.proofs.depths.Statement.{statement}
+use Rattle.depths.proofs.depths.Tie as tie
+
+workable-requires : tie.Need-workable-requires
+workable-requires c κs = search needs
+
+returns : tie.Need-returns
+returns c =
+    let a = c .before .before .before .before .before .args in
+    plumbed-refused (a .mask) (tableOf (a .rows) (a .events) (a .start) (a .cells .now) (a .marks .now)) (a .scratch .now) (c .before .workable .ensures) (c .if1 .taken)
+
+cast-search : tie.Need-cast-search
+cast-search c =
+    let a = c .before .before .before .before .before .args in
+    let r = ready (tableOf (a .rows) (a .events) (a .start) (a .cells .now) (a .marks .now)) (a .scratch .now) (λ i. omega (arith, c .before .before .before .shared-slice-known2 .given i)) (c .before .workable .ensures) (c .if1 .left) in
+    omega (arith, r .space .rows-fit)
+
+cast-search-2 : tie.Need-cast-search-2
+cast-search-2 c =
+    let a = c .before .before .before .before .before .args in
+    let r = ready (tableOf (a .rows) (a .events) (a .start) (a .cells .now) (a .marks .now)) (a .scratch .now) (λ i. omega (arith, c .before .before .before .shared-slice-known2 .given i)) (c .before .workable .ensures) (c .if1 .left) in
+    omega (arith, r .events-fit)
+
+cast-search-3 : tie.Need-cast-search-3
+cast-search-3 c =
+    let a = c .before .before .before .before .before .args in
+    let r = ready (tableOf (a .rows) (a .events) (a .start) (a .cells .now) (a .marks .now)) (a .scratch .now) (λ i. omega (arith, c .before .before .before .shared-slice-known2 .given i)) (c .before .workable .ensures) (c .if1 .left) in
+    omega (arith, r .start-in, r .space .rows-fit)
+
+search-requires : tie.Need-search-requires
+search-requires c κs =
+    let a = c .before .before .before .before .before .before .args in
+    let r = ready (tableOf (a .rows) (a .events) (a .start) (a .cells .now) (a .marks .now)) (a .scratch .now) (λ i. omega (arith, c .before .before .before .before .shared-slice-known2 .given i)) (c .before .before .workable .ensures) (c .before .if1 .left) in
+    (r .space, r .start-in)
+
+same-length : tie.Need-same-length
+same-length c = search needs
+
+returns-2 : tie.Need-returns-2
+returns-2 c =
+    let a = c .before .before .before .before .before .before .before .before .before .args in
+    plumbed-done (a .mask) (tableOf (a .rows) (a .events) (a .start) (a .cells .now) (a .marks .now)) (a .scratch .now)
+    (c .before .before .before .before .before .workable .ensures) (c .before .before .before .before .if1 .left) (c .before .before .search .ensures (a .marks .now))
+
+pub depths-spec : {M : Type 1} → statement M
+depths-spec =
+    tie.close
+    (tie.spec
+    workable-requires
+    returns
+    cast-search
+    cast-search-2
+    cast-search-3
+    search-requires
+    same-length
+    returns-2)

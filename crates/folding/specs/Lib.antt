@@ -1,0 +1,3 @@
+pub mod Folding
+pub mod Holds
+pub mod Found

@@ -1,0 +1,32 @@
+// The rows of a table into which its rows fold, found in the lent scratch from the distances and the depths.
+ghost use mathlib.Core.Path.{_≡_};
+ghost use lib.ListN.{length};
+ghost use Rattle.rules.specs.Rules.{tableOf, offsetOf};
+ghost use Rattle.scratch.specs.Scratch.{workable};
+ghost use Rattle.folding.specs.Folding.{foldedIn};
+
+mod folds;
+
+// The row into which each row folds, with the weights of events by a mask. Answers false, and does nothing, unless the table is valid and scratch has room.
+pub fn fold_rows(
+    offset: rules::Offset,
+    mask: u32,
+    rows: usize,
+    events: usize,
+    start: usize,
+    cells: &[u16],
+    marks: &[u8],
+    scratch: &mut [u16],
+) -> bool
+    ensures { λ r. ⌜ (r ≡ workable (tableOf rows events start (now (cells .entry)) (now (marks .entry))) (length (now (scratch .entry))))
+        × (now (scratch .exit) ≡ foldedIn mask (offsetOf offset) (tableOf rows events start (now (cells .entry)) (now (marks .entry))) (now (scratch .entry))) ⌝ }
+{
+    if !distances::distances(mask, rows, events, start, cells, marks, scratch) {
+        return false;
+    }
+    depths::depths(mask, rows, events, start, cells, marks, scratch);
+    let n = rows as u16;
+    folds::fold_all(offset, scratch, n);
+    scratch::clear(scratch, scratch::queue_at(n), scratch::folds_at(n));
+    true
+}

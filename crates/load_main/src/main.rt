@@ -1,0 +1,88 @@
+// The largest tables: 1,024 rows of 32 events as a chain, a cycle and a random table. What is printed is the new row count of each.
+use printing::print_number;
+use printing::print_refusal;
+use printing::print_text;
+use reduction::Answer;
+use rules::Offset;
+
+// The next state of Marsaglia's xorshift, with shifts 13 left, 17 right, 5 left.
+fn next(state: u32) -> u32 {
+    let a = state ^ (state << 13);
+    let b = a ^ (a >> 17);
+    b ^ (b << 5)
+}
+
+// The row after `row`; after the last row it is `last`.
+fn row_after(row: usize, last: u16) -> u16 {
+    if row < 1023 {
+        return (row + 1) as u16;
+    }
+    last
+}
+
+// Every event of 32 leads to the row after.
+fn fill_chain(cells: &mut [u16], last: u16) {
+    let mut c = 0;
+    while c < cells.len() {
+        cells[c] = row_after(c / 32, last);
+        c += 1;
+    }
+}
+
+fn fill_random(cells: &mut [u16], seed: u32) {
+    let mut state = seed;
+    let mut c = 0;
+    while c < cells.len() {
+        state = next(state);
+        cells[c] = (state % 1024) as u16;
+        c += 1;
+    }
+}
+
+fn fill_marks(marks: &mut [u8], seed: u32) {
+    let mut state = seed;
+    let mut i = 0;
+    while i < marks.len() {
+        state = next(state);
+        marks[i] = (state % 256) as u8;
+        i += 1;
+    }
+}
+
+// Reduces a table of 1,024 rows and 32 events, and prints the new row count.
+fn reduce(name: &[u8], offset: Offset, cells: &[u16], marks: &[u8]) {
+    let mut newcells = [0u16; 32768];
+    let mut newmarks = [0u8; 128];
+    let mut scratch = [0u16; 527872];
+    print_text(name);
+    match reduction::reduce_table(
+        offset,
+        1024,
+        32,
+        0,
+        cells,
+        marks,
+        &mut newcells,
+        &mut newmarks,
+        &mut scratch,
+    ) {
+        Answer::Reduced(rows) => {
+            print_number(rows);
+            print_text(b"\n");
+        }
+        Answer::Refused(number, place) => print_refusal(number, place),
+    }
+}
+
+fn main() {
+    let mut cells = [0u16; 32768];
+    let mut marks = [0u8; 128];
+    marks[127] = 128;
+    fill_chain(&mut cells, 1023);
+    reduce(b"chain", Offset::Number(1023), &cells, &marks);
+    fill_chain(&mut cells, 0);
+    reduce(b"cycle", Offset::None, &cells, &marks);
+    fill_random(&mut cells, 1);
+    fill_marks(&mut marks, 2);
+    reduce(b"random", Offset::None, &cells, &marks);
+}

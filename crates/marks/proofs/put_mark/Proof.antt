@@ -1,0 +1,34 @@
+use mathlib.Core.Path.{sym, ap, _∙_}
+use mathlib.Core.Bool.{Bool, cond}
+use borrow.Author.Tests.{eq-eqb, ne-eqb}
+use Rattle.marks.specs.Marks.{marked}
+use borrow.Author.Needs.{needs}
+use Rattle.marks.proofs.put_mark.Statement.{statement}
+use Rattle.marks.proofs.put_mark.Tie as tie
+
+set-mark-requires : tie.Need-set-mark-requires
+set-mark-requires c κs = search needs
+
+same-length : tie.Need-same-length
+same-length c = search needs
+
+returns : tie.Need-returns
+returns c =
+    let a = c .before .before .before .before .before .before .args in
+    c .before .before .set-mark .ensures ∙ ap (λ (b : Bool). marked (a .marks .now) (a .row) (cond b 1 0)) (sym (eq-eqb (a .mark) 1 (c .before .before .before .before .if1 .taken)))
+
+clear-mark-requires : tie.Need-clear-mark-requires
+clear-mark-requires c κs = search needs
+
+same-length-2 : tie.Need-same-length-2
+same-length-2 c = search needs
+
+returns-2 : tie.Need-returns-2
+returns-2 c =
+    let a = c .before .before .before .before .before .before .args in
+    c .before .before .clear-mark .ensures ∙ ap (λ (b : Bool). marked (a .marks .now) (a .row) (cond b 1 0)) (sym (ne-eqb (a .mark) 1 (c .before .before .before .before .if1 .left)))
+
+pub put-mark-spec : {M : Type 1} → statement M
+put-mark-spec =
+    tie.close
+    (tie.spec set-mark-requires same-length returns clear-mark-requires same-length-2 returns-2)

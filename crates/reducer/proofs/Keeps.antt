@@ -1,0 +1,57 @@
+-- What the work, the records and the clearing leave is what the reducer promises.
+use mathlib.Core.Path.{_≡_, refl, sym, ap, _∙_}
+use mathlib.Core.List.{List, _++_, map}
+use Prim.Native.Nat.{ℕ, min}
+use native.Mathlib.Omega.{arith}
+use lib.ListN.{length, drop}
+use Rattle.tables.specs.Table.{Table, Offset, Valid, unit}
+use Rattle.tables.specs.Reduction.{reduced, records as recordsOf}
+use Rattle.rules.specs.declared.Verdict.{Verdict}
+use Rattle.rules.specs.declared.Verdict.the-variants.{Fine, Refused}
+use Rattle.scratch.specs.Scratch.{needed, cleared}
+use Rattle.records.specs.declared.Record.{Record}
+use Rattle.records.specs.Records.{written}
+use Rattle.records.proofs.Written.{written-is}
+use Rattle.reduction.specs.Reduce.{verdict, leftBy, Promise}
+use Rattle.reduction.specs.Working.{recorded, workBy, worked, workedBy}
+use Rattle.reduction.specs.declared.Done.{Done}
+use Rattle.reduction.proofs.Room.{Roomy, fine-roomy}
+use Rattle.reduction.proofs.Promised.{promised}
+use Rattle.reducer.specs.Recorded.{recordOf, recordsBy}
+use Rattle.reducer.proofs.Told.{all-told, records-size}
+
+-- The offset and the table; the lent cells, mark bytes, records and scratch at entry; what the work answers; the cells, mark bytes and scratch after it;
+-- the records after they are written; the scratch after it is cleared.
+module _ (k : Offset) (T : Table) (cells marks : List ℕ) (records : List Record) (scratch : List ℕ) (w : Done) (cells′ marks′ worked′ : List ℕ) (records′ : List Record) (scratch′ : List ℕ)
+    (sound : verdict T (length cells) (length marks) (length records) (length scratch) ≡ Fine → Valid T) where
+  abbrev v : Verdict
+  v = verdict T (length cells) (length marks) (length records) (length scratch)
+
+  -- The records, by the verdict that was found.
+  recorded-by : (u : Verdict) → v ≡ u
+      → written records (workedBy u k T scratch) (recorded u (T .rows)) (min (recorded u (T .rows)) (length records)) ≡ recordsBy u records (recordsOf unit k T)
+  recorded-by Fine e =
+      let r : Roomy T (length cells) (length marks) (length records) (length scratch)
+      = fine-roomy T (length cells) (length marks) (length records) (length scratch) e (sound e) in
+      let n : ℕ = T .rows in
+      let all : min n (length records) ≡ n = omega (arith, r .records-fit) in
+      let size : length (recordsOf unit k T) ≡ n = records-size k T in
+      ap (written records (worked k T scratch) n) all ∙ written-is records (worked k T scratch) n n (r .records-fit)
+      ∙ ap (λ (l : List Record). l ++ drop n records) (all-told k T (r .valid) scratch (r .scratch-fits))
+      ∙ ap (λ (m : ℕ). map recordOf (recordsOf unit k T) ++ drop m records) (sym size)
+  recorded-by (Refused number place) e =
+      let none : min 0 (length records) ≡ 0 = omega arith in
+      ap (written records scratch 0) none
+
+  pub keeps : w ≡ workBy v k T
+      → cells′ ≡ leftBy v cells (reduced unit k T .cells)
+      → marks′ ≡ leftBy v marks (reduced unit k T .marks)
+      → worked′ ≡ workedBy v k T scratch
+      → records′ ≡ written records worked′ (w .rows) (min (w .rows) (length records))
+      → scratch′ ≡ cleared worked′ 0 (needed (w .rows))
+      → Promise v k T cells marks scratch (w .answer) cells′ marks′ scratch′ × (records′ ≡ recordsBy v records (recordsOf unit k T))
+  keeps e₀ e₁ e₂ e₃ e₄ e₅ = (
+    promised k T cells marks scratch (length records) sound w cells′ marks′ worked′ scratch′ e₀ e₁ e₂ e₃ e₅,
+    e₄ ∙ ap (λ (d : Done). written records worked′ (d .rows) (min (d .rows) (length records))) e₀
+        ∙ ap (λ (t : List ℕ). written records t (recorded v (T .rows)) (min (recorded v (T .rows)) (length records))) e₃ ∙ recorded-by v refl,
+  )

@@ -1,0 +1,5 @@
+pub mod Told
+pub mod Keeps
+pub mod Again
+pub mod AgainShr
+pub mod Together

@@ -1,0 +1,74 @@
+-- The records that are read off the scratch are those of the definition.
+use mathlib.Core.Path.{_≡_, refl, sym, ap, ap₂, _∙_}
+use mathlib.Core.Bool.{Bool, true, false, not}
+use mathlib.Core.List.{List, _∷_, map}
+use Prim.Native.Nat.{ℕ, zero, suc, _-_, _≤_, _<_}
+use native.Mathlib.Omega.{arith}
+use borrow.Author.Tests.{ne-eqb}
+use lib.Dec.{eqb}
+use lib.ListN.{length}
+use Rattle.automata.specs.Runs.{Events, Machine, Len, len, endless}
+use Rattle.tables.specs.Lists.{tabulate, some}
+use Rattle.tables.specs.Table.{Table, Offset, Valid, machine, eventsOf, unit}
+use Rattle.tables.specs.Lengths.{isZero, oneLess, lead, reached, depth}
+use Rattle.tables.specs.Reduction as spec
+use Rattle.tables.specs.Reduction.{kept, fold, number, records}
+use Rattle.tables.proofs.Lists.{tabulate-length, tabulate-same}
+use Rattle.tables.proofs.Lengths.{Below, depth-below}
+use Rattle.tables.proofs.Theorems.{unit-light, kept-itself}
+use Rattle.scratch.specs.Scratch.{needed, lenCell}
+use Rattle.records.specs.declared.Record.{Record}
+use Rattle.records.specs.declared.Depth.{Depth}
+use Rattle.records.specs.declared.Fate.{Fate}
+use Rattle.records.specs.Records.{depthBy, fateBy, recordAt}
+use Rattle.reduction.specs.Working.{worked}
+use Rattle.reduction.proofs.Worked.{worked-lead, worked-fold, worked-number}
+use Rattle.reducer.specs.Recorded.{depthOf, fateOf, recordOf}
+
+-- The depth by a lead.
+depth-told : (n : ℕ) → n ≤ 1024 → (x : Len) → Below n (oneLess x) → depthBy (lenCell x) ≡ depthOf (oneLess x)
+depth-told n h (len L) b = rw (ne-eqb L 65535 (λ e. absurd (omega arith)))
+depth-told n h endless b = refl
+
+-- The fate by a lead, where a reached row is kept just if it folds into itself.
+fate-told : (lead : ℕ) (none keeps : Bool) (q p i : ℕ) → eqb lead 0 ≡ none → (not none ≡ true → keeps ≡ eqb p q) → fateBy q lead p i ≡ fateOf (spec.fateBy (not none) keeps i p)
+fate-told lead true keeps q p i e h = rw e
+fate-told lead false true q p i e h = rw (e, sym (h refl))
+fate-told lead false false q p i e h = rw (e, sym (h refl))
+
+zero-cell : (x : Len) → eqb (lenCell x) 0 ≡ isZero x
+zero-cell (len L) = refl
+zero-cell endless = ne-eqb 65535 0 (λ e. absurd (omega arith))
+
+map-tabulate : {A B : Type 0} (g : A → B) (n : ℕ) (f : ℕ → A) → map g (tabulate n f) ≡ tabulate n (λ i. g (f i))
+unfolding tabulate
+map-tabulate g zero f = refl
+map-tabulate g (suc n) f = ap (λ (l : List _). g (f 0) ∷ l) (map-tabulate g n (λ i. f (suc i)))
+
+module _ (k : Offset) (T : Table) (v : Valid T) (s : List ℕ) (room : needed (T .rows) ≤ length s) where
+  abbrev E : Events
+  E = eventsOf unit T
+
+  abbrev M : Machine
+  M = machine T
+
+  -- What the definition says of row q.
+  abbrev told : ℕ → spec.Record
+  told q = record { depth = depth E M q; fate = spec.fateOf E M k q }
+
+  record-told : (q : ℕ) → q < T .rows → recordAt (worked k T s) (T .rows) q ≡ recordOf (told q)
+  unfolding depth spec.fateOf reached
+  record-told q h =
+      let c : ℕ = lenCell (lead E M q) in
+      let d = depth-told (T .rows) (v .rows-fit) (lead E M q) (depth-below E M q (v .some-row)) in
+      let f = fate-told c (isZero (lead E M q)) (some (eqb q) (kept E M k)) q (fold E M k q) (number E M (fold E M k) q) (zero-cell (lead E M q)) (kept-itself unit unit-light T v k q h) in
+      rw (worked-lead k T v s room q h, worked-fold k T v s room q h, worked-number k T v s room q h)
+      (ap₂ (λ (x : Depth) (y : Fate). record { depth = x; fate = y }) d f)
+
+  pub all-told : tabulate (T .rows) (recordAt (worked k T s) (T .rows)) ≡ map recordOf (records unit k T)
+  unfolding records
+  all-told = tabulate-same (T .rows) (recordAt (worked k T s) (T .rows)) (λ q. recordOf (told q)) record-told ∙ sym (map-tabulate recordOf (T .rows) told)
+
+pub records-size : (k : Offset) (T : Table) → length (records unit k T) ≡ T .rows
+unfolding records
+records-size k T = tabulate-length (T .rows) _

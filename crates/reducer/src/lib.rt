@@ -1,0 +1,88 @@
+// The reducer: it shortens a table into lent cells and mark bytes, with a record of what became of each given row.
+ghost use mathlib.Core.Path.{_≡_};
+ghost use lib.ListN.{length};
+ghost use Rattle.rules.specs.Rules.{tableOf, offsetOf};
+ghost use Rattle.tables.specs.Table.{unit};
+ghost use Rattle.tables.specs.Reduction.{records as recordsOf};
+ghost use Rattle.reduction.specs.Reduce.{verdict, Promise};
+ghost use Rattle.reducer.specs.Recorded.{recordsBy};
+use records::Record;
+use reduction::Answer;
+
+// Shortens a table: the new one is written into the lent cells and mark bytes, a record of each given row into the lent records; the scratch is cleared.
+pub fn reduce(
+    offset: rules::Offset,
+    rows: usize,
+    events: usize,
+    start: usize,
+    cells: &[u16],
+    marks: &[u8],
+    newcells: &mut [u16],
+    newmarks: &mut [u8],
+    records: &mut [Record],
+    scratch: &mut [u16],
+) -> Answer
+    ensures { λ r. ⌜ Promise (verdict (tableOf rows events start (now (cells .entry)) (now (marks .entry))) (length (now (newcells .entry))) (length (now (newmarks .entry))) (length (now (records .entry))) (length (now (scratch .entry))))
+        (offsetOf offset) (tableOf rows events start (now (cells .entry)) (now (marks .entry)))
+        (now (newcells .entry)) (now (newmarks .entry)) (now (scratch .entry)) r (now (newcells .exit)) (now (newmarks .exit)) (now (scratch .exit))
+        × (now (records .exit) ≡ recordsBy (verdict (tableOf rows events start (now (cells .entry)) (now (marks .entry))) (length (now (newcells .entry))) (length (now (newmarks .entry))) (length (now (records .entry))) (length (now (scratch .entry))))
+        (now (records .entry)) (recordsOf unit (offsetOf offset) (tableOf rows events start (now (cells .entry)) (now (marks .entry))))) ⌝ }
+{
+    let w = reduction::work(
+        offset,
+        rows,
+        events,
+        start,
+        cells,
+        marks,
+        newcells,
+        newmarks,
+        scratch,
+        records.len(),
+    );
+    let n = w.rows;
+    records::write_records(records, scratch, n);
+    reduction::finish(scratch, n);
+    w.answer
+}
+
+// The answer, and the records by value.
+pub struct Outcome {
+    pub answer: Answer,
+    pub records: [Record; 1024],
+}
+
+// The same with an array of records by value: it is lent here, and callers need not lend one.
+pub fn reduce_recorded(
+    offset: rules::Offset,
+    rows: usize,
+    events: usize,
+    start: usize,
+    cells: &[u16],
+    marks: &[u8],
+    newcells: &mut [u16],
+    newmarks: &mut [u8],
+    blank: [Record; 1024],
+    scratch: &mut [u16],
+) -> Outcome
+    ensures { λ r. ⌜ Promise (verdict (tableOf rows events start (now (cells .entry)) (now (marks .entry))) (length (now (newcells .entry))) (length (now (newmarks .entry))) 1024 (length (now (scratch .entry))))
+        (offsetOf offset) (tableOf rows events start (now (cells .entry)) (now (marks .entry)))
+        (now (newcells .entry)) (now (newmarks .entry)) (now (scratch .entry)) (r .answer) (now (newcells .exit)) (now (newmarks .exit)) (now (scratch .exit))
+        × (r .records ≡ recordsBy (verdict (tableOf rows events start (now (cells .entry)) (now (marks .entry))) (length (now (newcells .entry))) (length (now (newmarks .entry))) 1024 (length (now (scratch .entry))))
+        blank (recordsOf unit (offsetOf offset) (tableOf rows events start (now (cells .entry)) (now (marks .entry))))) ⌝ }
+{
+    let mut records = blank;
+    let answer = reduce(
+        offset,
+        rows,
+        events,
+        start,
+        cells,
+        marks,
+        newcells,
+        newmarks,
+        &mut records,
+        scratch,
+    );
+    Outcome { answer, records }
+}

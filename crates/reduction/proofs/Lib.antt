@@ -1,0 +1,4 @@
+pub mod Room
+pub mod Worked
+pub mod Outcome
+pub mod Promised

@@ -1,0 +1,113 @@
+-- The promise, from what the work and the clearing leave.
+use mathlib.Core.Path.{_≡_, refl, sym, ap, subst, _∙_}
+use mathlib.Core.List.{List}
+use Prim.Native.Nat.{ℕ, _+_, _*_, _≤_}
+use native.Mathlib.Nat.{mul-le-mul-right}
+use native.Mathlib.Omega.{arith}
+use lib.ListN.{length, take, replicate}
+use Rattle.automata.specs.Runs.{AgreeFrom}
+use Rattle.tables.specs.Lists.{over}
+use Rattle.tables.specs.Table.{Table, Offset, offset, none, Valid, markBytes, machine, eventsOf, unit, Agrees, Fewest}
+use Rattle.tables.specs.Reduction.{reduced}
+use Rattle.tables.proofs.Over.{over-none, take-over}
+use Rattle.tables.proofs.Theorems.{unit-light, valid, agrees, agrees-none, fewest, same-events, start-zero}
+use Rattle.rules.specs.declared.Verdict.{Verdict}
+use Rattle.rules.specs.declared.Verdict.the-variants.{Fine, Refused}
+use Rattle.scratch.specs.Scratch.{triangle, needed, cleared}
+use Rattle.scratch.proofs.Cells.{clear-front}
+use Rattle.reduction.specs.declared.Answer.{Answer}
+use Rattle.reduction.specs.declared.Answer.the-variants as answer
+use Rattle.reduction.specs.declared.Done.{Done}
+use Rattle.reduction.specs.Reduce.{scratchCells, verdict, answerBy, leftBy, from, written, Promise}
+use Rattle.reduction.specs.Working.{recorded, workBy, workedBy}
+use Rattle.reduction.proofs.Room.{Roomy, fine-roomy}
+use Rattle.reduction.proofs.Worked.{worked-cleared}
+
+-- An answer with a row count is given where no rule is broken.
+counted : (v : Verdict) (m n : ℕ) → answerBy v m ≡ answer.Reduced n → (v ≡ Fine) × (m ≡ n)
+counted Fine m n e = (refl, cc)
+counted (Refused number place) m n e = let z : _≡_ {A = ℕ} 0 1 = cc in absurd (omega arith)
+
+-- A table from its parts.
+table : (U : Table) {c m : List ℕ} {e s : ℕ} → c ≡ U .cells → m ≡ U .marks → e ≡ U .events → s ≡ U .start
+    → _≡_ {A = Table} (record { rows = U .rows; events = e; start = s; cells = c; marks = m }) U
+table U hc hm he hs = rw (hc, hm, he, hs)
+
+module _ (k : Offset) (T : Table) (cells marks scratch : List ℕ) (records : ℕ) (sound : verdict T (length cells) (length marks) records (length scratch) ≡ Fine → Valid T) where
+  abbrev v : Verdict
+  v = verdict T (length cells) (length marks) records (length scratch)
+
+  abbrev U : Table
+  U = reduced unit k T
+
+  itself : (k : Offset) → Agrees unit k T T
+  itself (offset k) = record { same = λ w h l. refl }
+  itself none = (0, record { same = λ w h l. refl })
+
+  never-more : Valid T → U .rows ≤ T .rows
+  never-more h = fewest unit unit-light T h k T h refl (itself k)
+
+  -- What stands in the buffers is the reduced table.
+  written-is : Roomy T (length cells) (length marks) records (length scratch) → written (U .rows) (T .events) (over cells 0 (U .cells)) (over marks 0 (U .marks)) ≡ U
+  written-is r =
+      let w = valid unit unit-light T (r .valid) k in
+      let rows = never-more (r .valid) in
+      let e = same-events unit unit-light T (r .valid) k in
+      let wide : U .rows * T .events ≡ 0 + length (U .cells) = omega (arith, w .all-cells, ap (λ (m : ℕ). U .rows * m) e) in
+      let bytes : markBytes (U .rows) ≡ 0 + length (U .marks) = omega (arith, w .all-marks) in
+      let cells-fit : 0 + length (U .cells) ≤ length cells = omega (arith, r .cells-fit, mul-le-mul-right (T .events) rows) in
+      let marks-fit : 0 + length (U .marks) ≤ length marks = omega (arith, r .marks-fit) in
+      table U (ap (λ (m : ℕ). take m (over cells 0 (U .cells))) wide ∙ take-over cells 0 (U .cells) cells-fit)
+      (ap (λ (m : ℕ). take m (over marks 0 (U .marks))) bytes ∙ take-over marks 0 (U .marks) marks-fit) (sym e) (sym (start-zero unit unit-light T (r .valid) k))
+
+  agrees-from : Valid T → AgreeFrom (eventsOf unit T) (from k T) (machine T) (machine U)
+  agrees-from h = pick k
+    where
+      pick : (j : Offset) → AgreeFrom (eventsOf unit T) (from j T) (machine T) (machine (reduced unit j T))
+      pick (offset j) = agrees unit unit-light T h (offset j)
+      pick none = agrees-none unit unit-light T h
+
+  -- Demands 2 and 3 of what was written.
+  module _ (r : Answer) (cells′ marks′ : List ℕ) (hr : r ≡ answerBy v (U .rows)) (hc : cells′ ≡ leftBy v cells (U .cells)) (hm : marks′ ≡ leftBy v marks (U .marks)) (n : ℕ) (e : r ≡ answer.Reduced n) where
+    fine : v ≡ Fine
+    fine = counted v (U .rows) n (sym hr ∙ e) .0
+
+    roomy : Roomy T (length cells) (length marks) records (length scratch)
+    roomy = fine-roomy T (length cells) (length marks) records (length scratch) fine (sound fine)
+
+    stands : written n (T .events) cells′ marks′ ≡ U
+    stands =
+        ap (λ (m : ℕ). written m (T .events) cells′ marks′) (sym (counted v (U .rows) n (sym hr ∙ e) .1))
+        ∙ ap (λ (c : List ℕ). written (U .rows) (T .events) c marks′) (hc ∙ ap (λ (u : Verdict). leftBy u cells (U .cells)) fine)
+        ∙ ap (written (U .rows) (T .events) (over cells 0 (U .cells))) (hm ∙ ap (λ (u : Verdict). leftBy u marks (U .marks)) fine)
+        ∙ written-is roomy
+
+    keeps-2 : AgreeFrom (eventsOf unit T) (from k T) (machine T) (machine (written n (T .events) cells′ marks′))
+    keeps-2 = subst (λ (N : Table). AgreeFrom (eventsOf unit T) (from k T) (machine T) (machine N)) (sym stands) (agrees-from (roomy .valid))
+
+    keeps-3 : Fewest unit k T (written n (T .events) cells′ marks′)
+    keeps-3 = subst (Fewest unit k T) (sym stands) (fewest unit unit-light T (roomy .valid) k)
+
+  -- Cleared after the work, the scratch is as promised.
+  finished : (u : Verdict) → verdict T (length cells) (length marks) records (length scratch) ≡ u
+      → cleared (workedBy u k T scratch) 0 (needed (recorded u (T .rows))) ≡ leftBy u scratch (replicate (scratchCells (T .rows)) 0)
+  unfolding triangle
+  finished Fine e =
+      let r = fine-roomy T (length cells) (length marks) records (length scratch) e (sound e) in
+      worked-cleared k T (r .valid) scratch (r .scratch-fits)
+  finished (Refused number place) e = clear-front scratch 0 (omega arith) ∙ over-none scratch 0
+
+  -- The promise: w is what the work answers, and t the scratch that it leaves.
+  pub promised : (w : Done) (cells′ marks′ t scratch′ : List ℕ) → w ≡ workBy v k T → cells′ ≡ leftBy v cells (U .cells) → marks′ ≡ leftBy v marks (U .marks)
+      → t ≡ workedBy v k T scratch → scratch′ ≡ cleared t 0 (needed (w .rows)) → Promise v k T cells marks scratch (w .answer) cells′ marks′ scratch′
+  promised w cells′ marks′ t scratch′ hw hc hm ht hs =
+      let hr : w .answer ≡ answerBy v (U .rows) = ap (λ (d : Done). d .answer) hw in
+      record {
+        answers = hr;
+        cells-after = hc;
+        marks-after = hm;
+        scratch-after =
+            hs ∙ ap (λ (d : Done). cleared t 0 (needed (d .rows))) hw ∙ ap (λ (x : List ℕ). cleared x 0 (needed (recorded v (T .rows)))) ht ∙ finished v refl;
+        demand-2 = keeps-2 (w .answer) cells′ marks′ hr hc hm;
+        demand-3 = keeps-3 (w .answer) cells′ marks′ hr hc hm;
+      }

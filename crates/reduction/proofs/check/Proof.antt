@@ -1,0 +1,55 @@
+use native.Mathlib.Omega.{arith}
+use Rattle.rules.specs.Rules.{tableOf}
+use Rattle.reduction.proofs.Room.{few-rows, few-events, verdict-refused, verdict-room}
+use borrow.Author.Needs.{needs}
+use Rattle.reduction.proofs.check.Statement.{statement}
+use Rattle.reduction.proofs.check.Tie as tie
+
+winch-requires : tie.Need-winch-requires
+winch-requires c κs = search needs
+
+check-table-requires : tie.Need-check-table-requires
+check-table-requires c κs = search needs
+
+enum-known-number : tie.Need-enum-known-number
+enum-known-number c = search needs
+
+enum-told : tie.Need-enum-told
+enum-told c = search needs
+
+cast-check-room : tie.Need-cast-check-room
+cast-check-room c =
+    let a = c .before .before .before .before .before .before .args in
+    record { fits = omega (arith, few-rows (tableOf (a .rows) (a .events) (a .start) (a .cells .now) (a .marks .now)) (a .cellroom) (a .markroom) (a .recordroom) (a .room) (c .before .before .before .winch .result) (c .before .before .check-table .result) (c .before .before .before .winch .ensures) (c .before .before .check-table .ensures) (c .enum-told .given .1)) }
+
+cast-check-room-2 : tie.Need-cast-check-room-2
+cast-check-room-2 c =
+    let a = c .before .before .before .before .before .before .args in
+    record { fits = omega (arith, few-events (tableOf (a .rows) (a .events) (a .start) (a .cells .now) (a .marks .now)) (a .cellroom) (a .markroom) (a .recordroom) (a .room) (c .before .before .before .winch .result) (c .before .before .check-table .result) (c .before .before .before .winch .ensures) (c .before .before .check-table .ensures) (c .enum-told .given .1)) }
+
+check-room-requires : tie.Need-check-room-requires
+check-room-requires c κs = search needs
+
+returns : tie.Need-returns
+returns c =
+    let a = c .before .before .before .before .before .before .before .args in
+    verdict-refused (tableOf (a .rows) (a .events) (a .start) (a .cells .now) (a .marks .now)) (a .cellroom) (a .markroom) (a .recordroom) (a .room) (c .before .before .before .before .winch .result) (c .before .before .before .check-table .result) (c .before .before .before .before .winch .ensures) (c .before .before .before .check-table .ensures) (c .before .number .given .0 .0) (c .before .number .given .0 .1 .0) (c .before .number .given .1)
+
+returns-2 : tie.Need-returns-2
+returns-2 c =
+    let a = c .before .before .before .before .before .before .before .args in
+    verdict-room (tableOf (a .rows) (a .events) (a .start) (a .cells .now) (a .marks .now)) (a .cellroom) (a .markroom) (a .recordroom) (a .room) (c .before .before .before .before .winch .result) (c .before .before .before .check-table .result) (c .before .before .before .before .winch .ensures) (c .before .before .before .check-table .ensures) (c .before .enum-told .given .1) (c .check-room .ensures)
+
+pub check-spec : {M : Type 1} → statement M
+check-spec =
+    tie.close
+    (tie.spec
+    winch-requires
+    check-table-requires
+    enum-known-number
+    enum-told
+    cast-check-room
+    cast-check-room-2
+    check-room-requires
+    returns
+    returns-2)

@@ -1,0 +1,62 @@
+-- What the reducer promises.
+use mathlib.Core.Path.{_≡_}
+use mathlib.Core.List.{List, [], _∷_, _++_}
+use Prim.Native.Nat.{ℕ, _+_, _-_, _*_, _/_}
+use lib.ListN.{take, replicate}
+use Rattle.automata.specs.Runs.{AgreeFrom}
+use Rattle.tables.specs.Lists.{over}
+use Rattle.tables.specs.Table.{Table, Offset, offset, none, markBytes, machine, eventsOf, unit, Fewest}
+use Rattle.tables.specs.Reduction.{reduced}
+use Rattle.rules.specs.Rules.{judged, winch, roomRule, tableChecks, tableOf}
+use Rattle.rules.specs.declared.Verdict.{Verdict}
+use Rattle.rules.specs.declared.Verdict.the-variants.{Fine, Refused}
+use Rattle.reduction.specs.declared.Answer.{Answer}
+use Rattle.reduction.specs.declared.Answer.the-variants as answer
+
+-- "Scratch of rows × (rows − 1) / 2 + 4 × rows 16-bit cells."
+abbrev pub scratchCells : ℕ → ℕ
+scratchCells rows = rows * (rows - 1) / 2 + 4 * rows
+
+-- Rule 7, for a table of so many rows and events, where the lent buffers have so many cells, mark bytes, records and scratch cells.
+abbrev pub roomChecks : ℕ → ℕ → ℕ → ℕ → ℕ → ℕ → List Verdict
+roomChecks rows events cells marks records scratch =
+    roomRule (rows * events) cells ∷ roomRule (markBytes rows) marks ∷ roomRule rows records ∷ roomRule (scratchCells rows) scratch ∷ []
+
+-- Rules 1 to 7, in number order.
+abbrev pub reduceChecks : Table → ℕ → ℕ → ℕ → ℕ → List Verdict
+reduceChecks T cells marks records scratch = tableChecks winch T ++ roomChecks (T .rows) (T .events) cells marks records scratch
+
+-- The first rule broken, if one is.
+unfoldable pub verdict : Table → ℕ → ℕ → ℕ → ℕ → Verdict
+verdict T cells marks records scratch = judged (reduceChecks T cells marks records scratch)
+
+-- The answer: the new row count, or the refusal.
+abbrev pub answerBy : Verdict → ℕ → Answer
+answerBy Fine rows = answer.Reduced rows
+answerBy (Refused number place) rows = answer.Refused number place
+
+-- A lent buffer afterwards: s in front and what was there beyond it; all as it was if a rule is broken.
+abbrev pub leftBy : Verdict → List ℕ → List ℕ → List ℕ
+leftBy Fine d s = over d 0 s
+leftBy (Refused number place) d s = d
+
+-- From which length on the reduced table agrees: the offset; with none, twice the given rows.
+abbrev pub from : Offset → Table → ℕ
+from (offset k) T = k
+from none T = 2 * T .rows
+
+-- The table that stands in the lent buffers: so many rows, the first cells and mark bytes, start 0.
+abbrev pub written : ℕ → ℕ → List ℕ → List ℕ → Table
+written rows events cells marks = tableOf rows events 0 (take (rows * events) cells) (take (markBytes rows) marks)
+
+-- What a call promises, given what the buffers hold before and after, and its answer.
+pub record Promise (v : Verdict) (k : Offset) (T : Table) (cells marks scratch : List ℕ) (r : Answer) (cells′ marks′ scratch′ : List ℕ) : Type 0 where
+  -- Demand 1: the first rule broken gives the answer, and then every buffer is unchanged.
+  pub answers : r ≡ answerBy v (reduced unit k T .rows)
+  pub cells-after : cells′ ≡ leftBy v cells (reduced unit k T .cells)
+  pub marks-after : marks′ ≡ leftBy v marks (reduced unit k T .marks)
+  pub scratch-after : scratch′ ≡ leftBy v scratch (replicate (scratchCells (T .rows)) 0)
+  -- Demand 2: the table that was written agrees with the given one after every run of the offset's length or more.
+  pub demand-2 : (n : ℕ) → r ≡ answer.Reduced n → AgreeFrom (eventsOf unit T) (from k T) (machine T) (machine (written n (T .events) cells′ marks′))
+  -- Demand 3: every table over the same events that agrees so has at least as many rows.
+  pub demand-3 : (n : ℕ) → r ≡ answer.Reduced n → Fewest unit k T (written n (T .events) cells′ marks′)

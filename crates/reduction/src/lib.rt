@@ -1,0 +1,175 @@
+// The reduction of a table into lent cells and mark bytes.
+ghost use mathlib.Core.Path.{_≡_};
+ghost use lib.ListN.{length};
+ghost use Rattle.rules.specs.Rules.{tableOf, offsetOf, judged};
+ghost use Rattle.tables.specs.Table.{Valid, unit};
+ghost use Rattle.rules.specs.declared.Verdict.the-variants.{Fine};
+ghost use Rattle.tables.specs.Reduction.{reduced};
+ghost use Rattle.scratch.specs.Scratch.{needed, cleared};
+ghost use Rattle.reduction.specs.Reduce.{roomChecks, verdict, leftBy, Promise};
+ghost use Rattle.reduction.specs.Working.{workBy, workedBy};
+
+// The new row count, or the number and place of the first rule broken.
+pub enum Answer {
+    Reduced(usize),
+    Refused(usize, usize),
+}
+
+// The answer, and of how many given rows there are records to write: none on a refusal.
+pub struct Done {
+    pub answer: Answer,
+    pub rows: u16,
+}
+
+// Every event counts.
+const ALL: u32 = 4294967295;
+
+// Rule 7: the lent cells, mark bytes, records and scratch cells, for a table of so many rows and events.
+fn check_room(
+    rows: u16,
+    events: u16,
+    cells: usize,
+    marks: usize,
+    records: usize,
+    scratch: usize,
+) -> rules::Verdict
+    ensures { λ r. ⌜ r ≡ judged (roomChecks rows events cells marks records scratch) ⌝ }
+{
+    if cells < rules::wide(rows) * rules::wide(events) {
+        return rules::Verdict::Refused(7, 0);
+    }
+    if marks < marks::mark_bytes(rules::wide(rows)) {
+        return rules::Verdict::Refused(7, 0);
+    }
+    if records < rules::wide(rows) {
+        return rules::Verdict::Refused(7, 0);
+    }
+    if scratch < scratch::needed(rows) {
+        return rules::Verdict::Refused(7, 0);
+    }
+    rules::Verdict::Fine
+}
+
+// Rules 1 to 7.
+fn check(
+    rows: usize,
+    events: usize,
+    start: usize,
+    cells: &[u16],
+    marks: &[u8],
+    cellroom: usize,
+    markroom: usize,
+    recordroom: usize,
+    room: usize,
+) -> rules::Verdict
+    ensures { λ r. ⌜ r ≡ verdict (tableOf rows events start (now (cells .entry)) (now (marks .entry))) cellroom markroom recordroom room ⌝ }
+{
+    match rules::check_table(rules::winch(), rows, events, start, cells, marks) {
+        rules::Verdict::Refused(number, place) => rules::Verdict::Refused(number, place),
+        rules::Verdict::Fine => check_room(
+            rows as u16,
+            events as u16,
+            cellroom,
+            markroom,
+            recordroom,
+            room,
+        ),
+    }
+}
+
+// Checks, reduces, and writes the new table; what the records say stands in scratch.
+pub fn work(
+    offset: rules::Offset,
+    rows: usize,
+    events: usize,
+    start: usize,
+    cells: &[u16],
+    marks: &[u8],
+    newcells: &mut [u16],
+    newmarks: &mut [u8],
+    scratch: &mut [u16],
+    room: usize,
+) -> Done
+    ensures { λ r. ⌜ (r ≡ workBy (verdict (tableOf rows events start (now (cells .entry)) (now (marks .entry))) (length (now (newcells .entry))) (length (now (newmarks .entry))) room (length (now (scratch .entry))))
+        (offsetOf offset) (tableOf rows events start (now (cells .entry)) (now (marks .entry))))
+        × (now (newcells .exit) ≡ leftBy (verdict (tableOf rows events start (now (cells .entry)) (now (marks .entry))) (length (now (newcells .entry))) (length (now (newmarks .entry))) room (length (now (scratch .entry))))
+        (now (newcells .entry)) (reduced unit (offsetOf offset) (tableOf rows events start (now (cells .entry)) (now (marks .entry))) .cells))
+        × (now (newmarks .exit) ≡ leftBy (verdict (tableOf rows events start (now (cells .entry)) (now (marks .entry))) (length (now (newcells .entry))) (length (now (newmarks .entry))) room (length (now (scratch .entry))))
+        (now (newmarks .entry)) (reduced unit (offsetOf offset) (tableOf rows events start (now (cells .entry)) (now (marks .entry))) .marks))
+        × (now (scratch .exit) ≡ workedBy (verdict (tableOf rows events start (now (cells .entry)) (now (marks .entry))) (length (now (newcells .entry))) (length (now (newmarks .entry))) room (length (now (scratch .entry))))
+        (offsetOf offset) (tableOf rows events start (now (cells .entry)) (now (marks .entry))) (now (scratch .entry)))
+        × (verdict (tableOf rows events start (now (cells .entry)) (now (marks .entry))) (length (now (newcells .entry))) (length (now (newmarks .entry))) room (length (now (scratch .entry))) ≡ Fine → Valid (tableOf rows events start (now (cells .entry)) (now (marks .entry)))) ⌝ }
+{
+    match check(
+        rows,
+        events,
+        start,
+        cells,
+        marks,
+        newcells.len(),
+        newmarks.len(),
+        room,
+        scratch.len(),
+    ) {
+        rules::Verdict::Refused(number, place) => Done {
+            answer: Answer::Refused(number, place),
+            rows: 0,
+        },
+        rules::Verdict::Fine => {
+            folding::fold_rows(offset, ALL, rows, events, start, cells, marks, scratch);
+            let left = renumbering::renumber(
+                rows,
+                events,
+                start,
+                cells,
+                marks,
+                scratch,
+                newcells,
+                newmarks,
+            );
+            Done {
+                answer: Answer::Reduced(left),
+                rows: rows as u16,
+            }
+        }
+    }
+}
+
+// Clears the scratch for a table of so many rows.
+pub fn finish(scratch: &mut [u16], rows: u16)
+    ensures { λ _. ⌜ now (scratch .exit) ≡ cleared (now (scratch .entry)) 0 (needed rows) ⌝ }
+{
+    scratch::clear(scratch, 0, scratch::needed(rows));
+}
+
+// Shortens a table without records: callers lend no structs.
+pub fn reduce_table(
+    offset: rules::Offset,
+    rows: usize,
+    events: usize,
+    start: usize,
+    cells: &[u16],
+    marks: &[u8],
+    newcells: &mut [u16],
+    newmarks: &mut [u8],
+    scratch: &mut [u16],
+) -> Answer
+    ensures { λ r. ⌜ Promise (verdict (tableOf rows events start (now (cells .entry)) (now (marks .entry))) (length (now (newcells .entry))) (length (now (newmarks .entry))) rows (length (now (scratch .entry))))
+        (offsetOf offset) (tableOf rows events start (now (cells .entry)) (now (marks .entry)))
+        (now (newcells .entry)) (now (newmarks .entry)) (now (scratch .entry)) r (now (newcells .exit)) (now (newmarks .exit)) (now (scratch .exit)) ⌝ }
+{
+    let w = work(
+        offset,
+        rows,
+        events,
+        start,
+        cells,
+        marks,
+        newcells,
+        newmarks,
+        scratch,
+        rows,
+    );
+    finish(scratch, w.rows);
+    w.answer
+}

@@ -1,0 +1,5 @@
+pub mod Lines
+pub mod Meeting
+pub mod Lining
+pub mod Writing
+pub mod Left

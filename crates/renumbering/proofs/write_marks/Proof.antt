@@ -1,0 +1,72 @@
+use mathlib.Core.Path.{_≡_, ap}
+use Prim.Native.Nat.{ℕ, _-_, _*_, _≤_}
+use native.Mathlib.Omega.{arith}
+use borrow.Author.Needs.{needs}
+use Rattle.tables.specs.Table.{markBytes}
+use Rattle.renumbering.specs.Line.{newMark}
+use Rattle.renumbering.proofs.Writing.{new-mark-none, new-mark-small, Marking, marking-none, marking-next, marking-all}
+use Rattle.renumbering.proofs.write_marks.Statement.{statement}
+use Rattle.renumbering.proofs.write_marks.Tie as tie
+
+abbrev Inv-loop : tie.InvT-loop
+Inv-loop marks rows scratch count out₀ bits i₀ out i = (i ≤ bits) × (bits ≡ 8 * markBytes count) × Marking (newMark marks rows scratch count) (new-mark-small marks scratch rows count) out₀ out i
+
+abbrev μ-loop : tie.MeasureT-loop
+μ-loop marks rows scratch count out₀ bits i₀ out i = bits - i
+
+mark-bytes-requires : tie.Need-mark-bytes-requires Inv-loop μ-loop
+mark-bytes-requires c κs = search needs
+
+mul-bits : tie.Need-mul-bits Inv-loop μ-loop
+mul-bits c = omega (arith, c .mark-bytes .ensures)
+
+loop-holds : tie.Need-loop-holds Inv-loop μ-loop
+loop-holds c =
+    let a = c .before .before .before .before .args in
+    (omega arith, ap (λ (n : ℕ). 8 * n) (c .mark-bytes .ensures), marking-none (newMark (a .marks .now) (a .rows) (a .scratch .now) (a .count)) (new-mark-small (a .marks .now) (a .scratch .now) (a .rows) (a .count)) (a .out .now) (λ j. omega (arith, c .before .slice-known .given j)))
+
+new-mark-requires : tie.Need-new-mark-requires Inv-loop μ-loop
+new-mark-requires c κs = omega (arith, c .before .before .loop .inv .1)
+
+put-mark-requires : tie.Need-put-mark-requires Inv-loop μ-loop
+put-mark-requires c κs = search needs
+
+add-i : tie.Need-add-i Inv-loop μ-loop
+add-i c = omega arith
+
+loop-less : tie.Need-loop-less Inv-loop μ-loop
+loop-less c = omega arith
+
+loop-again : tie.Need-loop-again Inv-loop μ-loop
+loop-again c =
+    let z = c .before .before .before .before .before .before .before .before .before .before .before in
+    let a = z .args in
+    let l = c .before .before .before .before .before .before .loop in
+    (omega arith, l .inv .1, marking-next (newMark (a .marks .now) (a .rows) (a .scratch .now) (a .count)) (new-mark-small (a .marks .now) (a .scratch .now) (a .rows) (a .count)) (a .out .now) (l .out) (l .i) (l .inv .2) (omega (arith, l .inv .1, z .pre .1)) (c .before .before .before .new-mark .result) (c .before .before .before .new-mark .ensures) (c .before .before .put-mark .last .0) (c .before .before .put-mark .ensures))
+
+same-length : tie.Need-same-length Inv-loop μ-loop
+same-length c = c .before .loop .inv .2 .same
+
+returns : tie.Need-returns Inv-loop μ-loop
+returns c =
+    let z = c .before .before .before .before .before .before in
+    let a = z .args in
+    let l = c .before .loop in
+    marking-all (newMark (a .marks .now) (a .rows) (a .scratch .now) (a .count)) (new-mark-small (a .marks .now) (a .scratch .now) (a .rows) (a .count)) (a .count) (new-mark-none (a .marks .now) (a .scratch .now) (a .rows) (a .count)) (a .out .now) (l .out) (l .i) (l .inv .2) (λ j. omega (arith, c .before .before .before .slice-known .given j)) (z .pre .1) (omega (arith, l .inv .1))
+
+pub write-marks-spec : {M : Type 1} → statement M
+write-marks-spec =
+    tie.close
+    (tie.spec
+    Inv-loop
+    μ-loop
+    mark-bytes-requires
+    mul-bits
+    loop-holds
+    new-mark-requires
+    put-mark-requires
+    add-i
+    loop-less
+    loop-again
+    same-length
+    returns)

@@ -1,0 +1,69 @@
+-- The pair that a place belongs to, and cells that are cleared.
+use Prim.Native.Nat.{ℕ, zero, suc, _+_, _-_, _*_, _≤_, _<_}
+use mathlib.Core.Path.{_≡_, refl, sym, ap, _∙_}
+use mathlib.Core.List.{List, [], _∷_, _++_}
+use native.Mathlib.Nat.{le-of-lt}
+use native.Mathlib.Omega.{arith}
+use borrow.Author.Tests.{lt-ltb, le-ltb}
+use lib.ListN.{length, getD, set, replicate, length-replicate}
+use Rattle.tables.specs.Lists.{over}
+use Rattle.tables.proofs.Over.{over-length, over-set, over-over}
+use Rattle.scratch.specs.Scratch.{triangle, pairAt, cleared}
+
+pub pair-greater : (s : List ℕ) (q p : ℕ) → p < q → pairAt s q p ≡ getD s (triangle q + p) 0
+unfolding pairAt
+pair-greater s q p h = rw (lt-ltb p q h)
+
+pub pair-less : (s : List ℕ) (q p : ℕ) → q < p → pairAt s q p ≡ getD s (triangle p + q) 0
+unfolding pairAt
+pair-less s q p h = rw (le-ltb p q (le-of-lt h), lt-ltb q p h)
+
+pub pair-same : (s : List ℕ) (q p : ℕ) → q ≡ p → pairAt s q p ≡ 0
+unfolding pairAt
+pair-same s q p e = rw (le-ltb p q (omega arith), le-ltb q p (omega arith))
+
+-- The same at the place that the code has computed.
+pub greater : (s : List ℕ) {q p t x : ℕ} → p < q → t ≡ triangle q → x ≡ p → getD s (t + x) 0 ≡ pairAt s q p
+greater s {q} {p} {t} {x} h e f = rw (e, f) (sym (pair-greater s q p h))
+
+pub less : (s : List ℕ) {q p t x : ℕ} → q < p → t ≡ triangle p → x ≡ q → getD s (t + x) 0 ≡ pairAt s q p
+less s {q} {p} {t} {x} h e f = rw (e, f) (sym (pair-less s q p h))
+
+-- ---- clearing
+pub clear-short : (s : List ℕ) (from to : ℕ) → length s < to → cleared s from to ≡ s
+unfolding cleared
+clear-short s from to h = rw (lt-ltb (length s) to h)
+
+-- One zero more at the end.
+zeros-snoc : (n : ℕ) → _++_ {A = ℕ} (replicate n 0) (0 ∷ []) ≡ replicate (suc n) 0
+zeros-snoc zero = refl
+zeros-snoc (suc n) = ap (λ (l : List ℕ). 0 ∷ l) (zeros-snoc n)
+
+pub clear-next : (s : List ℕ) (from : ℕ) (t : List ℕ) (i : ℕ) → t ≡ over s from (replicate (i - from) 0) → from ≤ i → i < length s
+    → set t i 0 ≡ over s from (replicate (i + 1 - from) 0)
+clear-next s from t i e h room =
+    let z : List ℕ = replicate (i - from) 0 in
+    let n : length z ≡ i - from = length-replicate (i - from) 0 in
+    let at : i ≡ from + length z = omega arith in
+    let more : suc (i - from) ≡ i + 1 - from = omega arith in
+    let fits : from + length z ≤ length s = omega arith in
+    ap (λ (u : List ℕ). set u i 0) e
+    ∙ over-set (over s from z) i 0 (omega (arith, over-length s from z fits))
+    ∙ ap (λ (k : ℕ). over (over s from z) k (0 ∷ [])) at
+    ∙ over-over s from z fits (0 ∷ [])
+    ∙ ap (over s from) (zeros-snoc (i - from) ∙ ap (λ (k : ℕ). replicate k 0) more)
+
+pub clear-all : (s : List ℕ) (from to i : ℕ) (t : List ℕ) → t ≡ over s from (replicate (i - from) 0) → i - from ≡ to - from → to ≤ length s
+    → t ≡ cleared s from to
+unfolding cleared
+clear-all s from to i t e h room = rw (le-ltb (length s) to room) (e ∙ ap (λ (k : ℕ). over s from (replicate k 0)) h)
+
+pub same-place : (s : List ℕ) {q m a x y z : ℕ} → x ≡ q → y ≡ m → z ≡ a → getD s (x * y + z) 0 ≡ getD s (q * m + a) 0
+same-place s e f g = rw (e, f, g)
+
+-- Cells in front that are cleared.
+pub clear-front : (s : List ℕ) (count : ℕ) → count ≤ length s → cleared s 0 count ≡ over s 0 (replicate count 0)
+unfolding cleared
+clear-front s count h =
+    let e : count - 0 ≡ count = omega arith in
+    rw (le-ltb (length s) count h, e)

@@ -1,0 +1,6 @@
+pub mod Triangle
+pub mod Cells
+pub mod Pairs
+pub mod Works
+pub mod Soundness
+pub mod Weights

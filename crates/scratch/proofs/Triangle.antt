@@ -1,0 +1,67 @@
+-- The triangle of pairs: where its rows begin, and that no two pairs share a cell.
+use Prim.Native.Nat.{ℕ, zero, suc, _+_, _-_, _*_, _/_, _≤_, _<_}
+use mathlib.Core.Path.{_≡_, refl, ap}
+use mathlib.Core.Logic.{_⊎_, inl, inr, ⊎-elim}
+use native.Mathlib.Nat.{mul-suc, suc-mul, mul-le-mul, eq-or-lt-of-le, le-of-eq}
+use native.Mathlib.Decide.{decLt}
+use native.Mathlib.Omega.{arith}
+use Rattle.scratch.specs.Scratch.{triangle, needed}
+
+-- Cases on two numbers.
+pub lt-or-ge : (a b : ℕ) → (a < b) ⊎ (b ≤ a)
+lt-or-ge a b = by-dec (decLt a b)
+  where
+    by-dec : Dec (a < b) → (a < b) ⊎ (b ≤ a)
+    by-dec (yes h) = inl h
+    by-dec (no h) = inr (omega arith)
+
+pub eq-or-ne : (a b : ℕ) → (a ≡ b) ⊎ (a ≡ b → ⊥)
+eq-or-ne a b = ⊎-elim (λ l. inr (omega arith)) (λ g. ⊎-elim (λ l. inr (omega arith)) (λ h. inl (omega arith)) (lt-or-ge b a)) (lt-or-ge a b)
+
+pub triangle-square : (i : ℕ) → i * i ≡ 2 * triangle i + i
+unfolding triangle
+triangle-square zero = refl
+triangle-square (suc i) = rw (mul-suc (suc i) i, suc-mul i i) (omega (arith, triangle-square i))
+
+-- As the code computes it.
+pub triangle-value : (i : ℕ) → (i * i - i) / 2 ≡ triangle i
+triangle-value i = omega (arith, triangle-square i)
+
+-- As document 01 says it.
+pub triangle-product : (i : ℕ) → i * (i - 1) / 2 ≡ triangle i
+triangle-product zero = omega (arith, triangle-square 0)
+triangle-product (suc i) =
+    let e : suc i - 1 ≡ i = omega arith in
+    rw e (let f : suc i * suc i ≡ suc i * i + suc i = mul-suc (suc i) i in omega (arith, f, triangle-square (suc i)))
+
+pub needed-value : (n : ℕ) → n * (n - 1) / 2 + 4 * n ≡ needed n
+needed-value n = ap (λ (t : ℕ). t + 4 * n) (triangle-product n)
+
+-- Rows and events are 16-bit numbers.
+pub product-bound : (q m : ℕ) → q ≤ 65535 → m ≤ 65535 → q * m ≤ 4294836225
+product-bound q m h g = mul-le-mul h g
+
+pub triangle-bound : (i : ℕ) → i ≤ 65535 → triangle i ≤ 2147450880
+triangle-bound i h = omega (arith, triangle-square i, product-bound i i h h)
+
+pub triangle-le : (i j : ℕ) → i ≤ j → triangle i ≤ triangle j
+unfolding triangle
+triangle-le i zero h = let e : i ≡ 0 = omega arith in le-of-eq (ap triangle e)
+triangle-le i (suc j) h = ⊎-elim (λ e. le-of-eq (ap triangle e)) (λ l. omega (arith, triangle-le i j (omega arith))) (eq-or-lt-of-le h)
+
+-- A row ends where a later row begins, or before.
+pub triangle-next : (i n : ℕ) → i < n → triangle i + i ≤ triangle n
+unfolding triangle
+triangle-next i n h = triangle-le (suc i) n h
+
+-- No two pairs share a cell.
+pub triangle-one : (i j k l : ℕ) → j < i → l < k → triangle i + j ≡ triangle k + l → (i ≡ k) × (j ≡ l)
+triangle-one i j k l h g e =
+    ⊎-elim
+    (λ s. absurd (omega (arith, triangle-next i k s)))
+    (λ s.
+    ⊎-elim
+    (λ t. absurd (omega (arith, triangle-next k i t)))
+    (λ t. let m : i ≡ k = omega arith in (m, omega (arith, ap triangle m)))
+    (lt-or-ge k i))
+    (lt-or-ge i k)

@@ -1,0 +1,42 @@
+use mathlib.Core.Path.{_∙_}
+use Rattle.scratch.proofs.Cells.{same-place}
+use native.Mathlib.Omega.{arith}
+use Rattle.scratch.proofs.Triangle.{product-bound}
+use borrow.Author.Needs.{needs}
+use Rattle.scratch.proofs.target.Statement.{statement}
+use Rattle.scratch.proofs.target.Tie as tie
+
+wide-requires : tie.Need-wide-requires
+wide-requires c κs = search needs
+
+wide-requires-2 : tie.Need-wide-requires-2
+wide-requires-2 c κs = search needs
+
+mul-cell : tie.Need-mul-cell
+mul-cell c = omega (arith, product-bound (c .before .wide .result) (c .wide2 .result) (omega arith) (omega arith))
+
+wide-requires-3 : tie.Need-wide-requires-3
+wide-requires-3 c κs = search needs
+
+add-cell : tie.Need-add-cell
+add-cell c = omega (arith, product-bound (c .before .before .wide .result) (c .before .wide2 .result) (omega arith) (omega arith))
+
+cell-requires : tie.Need-cell-requires
+cell-requires c κs = search needs
+
+returns : tie.Need-returns
+returns c =
+    let a = c .before .before .before .before .before .args in
+    c .cell .ensures ∙ same-place (a .cells .now) (c .before .before .before .wide .ensures) (c .before .before .wide2 .ensures) (c .before .wide3 .ensures)
+
+pub target-spec : {M : Type 1} → statement M
+target-spec =
+    tie.close
+    (tie.spec
+    wide-requires
+    wide-requires-2
+    mul-cell
+    wide-requires-3
+    add-cell
+    cell-requires
+    returns)

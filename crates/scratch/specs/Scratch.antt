@@ -1,0 +1,75 @@
+-- The lent scratch: "rows × (rows − 1) / 2 + 4 × rows 16-bit cells", and what stands where in it.
+use mathlib.Core.Bool.{Bool, true, false, cond}
+use mathlib.Core.List.{List, [], _++_}
+use Prim.Native.Nat.{ℕ, zero, suc, _+_, _-_, _*_, _/_, _%_, _^_}
+use lib.Dec.{leb, ltb}
+use lib.ListN.{length, getD, take, drop, replicate}
+use Rattle.automata.specs.Runs.{Len, len, endless}
+use Rattle.tables.specs.Lists.{tabulate, over}
+use Rattle.tables.specs.Table.{Table}
+use Rattle.rules.specs.Rules.{judged, winch, tableChecks}
+use Rattle.rules.specs.declared.Verdict.{Verdict}
+use Rattle.rules.specs.declared.Verdict.the-variants.{Fine, Refused}
+
+-- 0 + 1 + .. + (i - 1): the first cell of row i in the triangle of pairs, where row i has a cell for each lower row.
+unfoldable pub triangle : ℕ → ℕ
+triangle zero = 0
+triangle (suc i) = triangle i + i
+
+-- The cell of two rows; 0 where they are one.
+unfoldable pub pairAt : List ℕ → ℕ → ℕ → ℕ
+pairAt s q p = cond (ltb p q) (getD s (triangle q + p) 0) (cond (ltb q p) (getD s (triangle p + q) 0) 0)
+
+-- The triangle of n rows with f of each row and each lower one.
+unfoldable pub pairs : (ℕ → ℕ → ℕ) → ℕ → List ℕ
+pairs f zero = []
+pairs f (suc n) = pairs f n ++ tabulate n (f n)
+
+-- Behind the pairs stand four cells for each row: its lead, a place in the queue, the row into which it folds, and that row's new number.
+abbrev pub leadsAt : ℕ → ℕ
+leadsAt n = triangle n
+
+abbrev pub queueAt : ℕ → ℕ
+queueAt n = triangle n + n
+
+abbrev pub foldsAt : ℕ → ℕ
+foldsAt n = triangle n + 2 * n
+
+abbrev pub numbersAt : ℕ → ℕ
+numbersAt n = triangle n + 3 * n
+
+-- What stands there in scratch s of n rows: the lead of row q, the first m rows of the queue, the row into which row q folds.
+abbrev pub leadAt : List ℕ → ℕ → ℕ → ℕ
+leadAt s n q = getD s (leadsAt n + q) 0
+
+abbrev pub queued : List ℕ → ℕ → ℕ → List ℕ
+queued s n m = take m (drop (queueAt n) s)
+
+abbrev pub foldIn : List ℕ → ℕ → ℕ → ℕ
+foldIn s n q = getD s (foldsAt n + q) 0
+
+-- How many cells that takes: n * (n - 1) / 2 + 4 * n, as proved in proofs/Triangle.antt.
+abbrev pub needed : ℕ → ℕ
+needed n = triangle n + 4 * n
+
+-- A length in a cell: 65,535 is endless.
+abbrev pub lenCell : Len → ℕ
+lenCell (len L) = L
+lenCell endless = 65535
+
+-- What an event adds to the length of a run: bit `a` of a mask of 32 bits. An event is below 32.
+abbrev pub weightBy : ℕ → ℕ → ℕ
+weightBy mask a = mask / 2 ^ (a % 32) % 2
+
+-- s with 0 in the cells from one place up to another, where there are so many.
+unfoldable pub cleared : List ℕ → ℕ → ℕ → List ℕ
+cleared s from to = cond (ltb (length s) to) s (over s from (replicate (to - from) 0))
+
+-- No rule is broken.
+abbrev pub fine : Verdict → Bool
+fine Fine = true
+fine (Refused number place) = false
+
+-- A table that breaks none of the rules 1 to 6, and room for that many cells.
+unfoldable pub workable : Table → ℕ → Bool
+workable T room = cond (fine (judged (tableChecks winch T))) (leb (needed (T .rows)) room) false

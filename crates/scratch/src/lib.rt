@@ -1,0 +1,129 @@
+// What the searches of the reducer share: the targets and weights that they read, and the map of the lent scratch in which they work.
+ghost use mathlib.Core.Path.{_≡_};
+ghost use Prim.Native.Nat.{_+_, _*_};
+ghost use lib.ListN.{length, getD, set};
+ghost use Rattle.rules.specs.Rules.{tableOf};
+ghost use Rattle.scratch.specs.Scratch.{triangle, pairAt, leadsAt, queueAt, foldsAt, numbersAt, needed as cellsNeeded, weightBy, cleared, workable as isWorkable};
+
+// The first cell of a row in the triangle of pairs.
+pub fn row_start(row: u16) -> usize
+    ensures { λ r. ⌜ r ≡ triangle row ⌝ }
+{
+    let i = rules::wide(row);
+    (i * i - i) / 2
+}
+
+// Where the leads stand, one for each row.
+pub fn leads_at(rows: u16) -> usize
+    ensures { λ r. ⌜ r ≡ leadsAt rows ⌝ }
+{
+    row_start(rows)
+}
+
+// Where rows stand in line: in order of depth, then kept, then in order of their new numbers.
+pub fn queue_at(rows: u16) -> usize
+    ensures { λ r. ⌜ r ≡ queueAt rows ⌝ }
+{
+    row_start(rows) + rules::wide(rows)
+}
+
+// Where the rows stand into which each row folds.
+pub fn folds_at(rows: u16) -> usize
+    ensures { λ r. ⌜ r ≡ foldsAt rows ⌝ }
+{
+    row_start(rows) + 2 * rules::wide(rows)
+}
+
+// Where the new numbers of those stand.
+pub fn numbers_at(rows: u16) -> usize
+    ensures { λ r. ⌜ r ≡ numbersAt rows ⌝ }
+{
+    row_start(rows) + 3 * rules::wide(rows)
+}
+
+// How many cells all of it takes.
+pub fn needed(rows: u16) -> usize
+    ensures { λ r. ⌜ r ≡ cellsNeeded rows ⌝ }
+{
+    row_start(rows) + 4 * rules::wide(rows)
+}
+
+// A cell; 0 beyond the last.
+pub fn cell(cells: &[u16], at: usize) -> u16
+    ensures { λ r. ⌜ r ≡ getD (now (cells .entry)) at 0 ⌝ }
+{
+    if at < cells.len() {
+        return cells[at];
+    }
+    0
+}
+
+// Writes a cell; beyond the last it does nothing.
+pub fn put(cells: &mut [u16], at: usize, x: u16)
+    ensures { λ r. ⌜ now (cells .exit) ≡ set (now (cells .entry)) at x ⌝ }
+{
+    if at < cells.len() {
+        cells[at] = x;
+    }
+}
+
+// The cell of two rows; 0 where they are one.
+pub fn pair(scratch: &[u16], q: u16, p: u16) -> u16
+    ensures { λ r. ⌜ r ≡ pairAt (now (scratch .entry)) q p ⌝ }
+{
+    if p < q {
+        return cell(scratch, row_start(q) + rules::wide(p));
+    }
+    if q < p {
+        return cell(scratch, row_start(p) + rules::wide(q));
+    }
+    0
+}
+
+// The target of a row and an event.
+pub fn target(cells: &[u16], events: u16, row: u16, event: u16) -> u16
+    ensures { λ r. ⌜ r ≡ getD (now (cells .entry)) (row * events + event) 0 ⌝ }
+{
+    cell(
+        cells,
+        rules::wide(row) * rules::wide(events) + rules::wide(event),
+    )
+}
+
+// What an event adds to the length of a run.
+pub fn weight(mask: u32, event: u16) -> u16
+    ensures { λ r. ⌜ r ≡ weightBy mask event ⌝ }
+{
+    ((mask >> (event % 32)) & 1) as u16
+}
+
+// The cells from one place up to another become 0, where there are so many.
+pub fn clear(cells: &mut [u16], from: usize, to: usize)
+    ensures { λ r. ⌜ now (cells .exit) ≡ cleared (now (cells .entry)) from to ⌝ }
+{
+    if cells.len() < to {
+        return;
+    }
+    let mut i = from;
+    while i < to {
+        cells[i] = 0;
+        i += 1;
+    }
+}
+
+// Whether a table breaks none of the rules 1 to 6, and there is room to work on it.
+pub fn workable(
+    rows: usize,
+    events: usize,
+    start: usize,
+    cells: &[u16],
+    marks: &[u8],
+    room: usize,
+) -> bool
+    ensures { λ r. ⌜ r ≡ isWorkable (tableOf rows events start (now (cells .entry)) (now (marks .entry))) room ⌝ }
+{
+    match rules::check_table(rules::winch(), rows, events, start, cells, marks) {
+        rules::Verdict::Refused(number, place) => false,
+        rules::Verdict::Fine => needed(rows as u16) <= room,
+    }
+}
