@@ -1,0 +1,168 @@
+-- An image longer than any sound one is judged by its first bytes: more of them change nothing.
+use mathlib.Core.Path.{_≡_, refl, sym, ap, _∙_}
+use mathlib.Core.Bool.{not}
+use mathlib.Core.List.{List, [], _∷_, _++_}
+use Prim.Native.Nat.{ℕ, _+_, _*_, _/_, _%_, _≤_, _<_}
+use native.Mathlib.Nat.{div-add-mod, mul-le-mul}
+use native.Mathlib.Omega.{arith}
+use borrow.Author.Tests.{le-ltb, lt-ltb, ltb-false, eqb-true, not-false}
+use lib.Dec.{eqb, leb, ltb}
+use lib.ListN.{length, getD, drop, length-append, length-drop, List·getD-append}
+use lib.Seq.{drop-append-le}
+use Rattle.tables.specs.Lists.{position}
+use Rattle.tables.proofs.Lists.{tabulate-same}
+use Rattle.rules.specs.Rules.{rule, andThen, judged, winch, outside, rowsRule, eventsRule, rowRule, spareRule}
+use Rattle.rules.specs.declared.Verdict.{Verdict}
+use Rattle.rules.specs.declared.Verdict.the-variants.{Fine, Refused}
+use Rattle.rules.proofs.Checks.{unbroken, passed, inside}
+use Rattle.images.specs.Image.{numberAt, cellsAt, targetsAt, startAt}
+use Rattle.image_reader.specs.Read.{cutRule, targetsRule, readChecks, imageRead, answered}
+use Rattle.image_reader.specs.declared.Read.the-variants as read
+use Rattle.desk.specs.Printed.{offsetIn, textOf, imageText, printed}
+
+-- Two rows of checks that say the same first, and go on the same if that is fine.
+first-same : {u v x y : Verdict} → u ≡ v → (v ≡ Fine → x ≡ y) → andThen u x ≡ andThen v y
+first-same {u} {v} {x} {y} e h = ap (λ (w : Verdict). andThen w x) e ∙ after v h
+  where
+    after : (v : Verdict) → (v ≡ Fine → x ≡ y) → andThen v x ≡ andThen v y
+    after Fine h = h refl
+    after (Refused number place) h = refl
+
+not-cut : (b : List ℕ) (end : ℕ) → end ≤ length b → cutRule b end ≡ Fine
+not-cut b end h = rw (le-ltb (length b) end h)
+
+module _ (b rest : List ℕ) (long : 8217 ≤ length b) where
+  abbrev c : List ℕ
+  c = b ++ rest
+
+  longer : length b ≤ length c
+  longer = omega (arith, length-append b rest)
+
+  byte-same : (i : ℕ) → i < length b → getD c i 0 ≡ getD b i 0
+  byte-same i h = List·getD-append b rest 0 i h
+
+  number-same : (i : ℕ) → i + 1 < length b → numberAt c i ≡ numberAt b i
+  number-same i h = rw (byte-same i (omega arith), byte-same (i + 1) h)
+
+  cut-same : (end : ℕ) → end ≤ 8217 → cutRule c end ≡ cutRule b end
+  cut-same end h = not-cut c end (omega (arith, longer)) ∙ sym (not-cut b end (omega arith))
+
+  abbrev rows : ℕ
+  rows = numberAt b 0
+
+  module _ (few : rows ≤ 128) where
+    abbrev count : ℕ
+    count = numberAt b (targetsAt rows)
+
+    count-same : numberAt c (targetsAt rows) ≡ count
+    count-same = number-same (targetsAt rows) (omega arith)
+
+    module _ (small : count ≤ 4096) where
+      one-same : numberAt c (startAt rows count) ≡ numberAt b (startAt rows count)
+      one-same = number-same (startAt rows count) (omega arith)
+
+      start-same : numberAt c (startAt rows count + 2) ≡ numberAt b (startAt rows count + 2)
+      start-same = number-same (startAt rows count + 2) (omega arith)
+
+      cells-same : cellsAt c (targetsAt rows + 2) count ≡ cellsAt b (targetsAt rows + 2) count
+      cells-same = tabulate-same count _ _ (λ i h. number-same (targetsAt rows + 2 + 2 * i) (omega arith))
+
+      too-long : (d : List ℕ) → 8217 ≤ length d → rule 10 (ltb (startAt rows count + 2 + 2) (length d)) 0 ≡ Refused 10 0
+      too-long d h = rw (lt-ltb (startAt rows count + 2 + 2) (length d) (omega arith))
+
+  few-targets : (r n : ℕ) → n % r ≡ 0 → r ≤ 128 → n / r ≤ 32 → n ≤ 4096
+  few-targets r n e h g = omega (arith, div-add-mod n r, mul-le-mul h g)
+
+  -- The checks from the targets on; those from the marks on; all of them.
+  abbrev lastChecks : List ℕ → ℕ → List Verdict
+  lastChecks d n =
+      cutRule d (startAt rows n)
+      ∷ targetsRule d rows (targetsAt rows + 2) n
+      ∷ cutRule d (startAt rows n + 2)
+      ∷ rule 9 (not (eqb (numberAt d (startAt rows n)) 1)) 0
+      ∷ cutRule d (startAt rows n + 2 + 2)
+      ∷ rowRule rows (numberAt d (startAt rows n + 2))
+      ∷ rule 10 (ltb (startAt rows n + 2 + 2) (length d)) 0
+      ∷ []
+
+  abbrev midChecks : List ℕ → ℕ → List Verdict
+  midChecks d n =
+      cutRule d (targetsAt rows)
+      ∷ spareRule rows (getD d (2 + rows / 8) 0)
+      ∷ cutRule d (targetsAt rows + 2)
+      ∷ rule 9 (not (eqb (n % rows) 0)) 0
+      ∷ eventsRule winch (n / rows)
+      ∷ lastChecks d n
+
+  abbrev allChecks : List ℕ → List Verdict
+  allChecks d = cutRule d 2 ∷ rowsRule winch rows ∷ rule 12 (ltb 128 rows) 0 ∷ midChecks d (numberAt d (targetsAt rows))
+
+  last-same : (few : rows ≤ 128) → count few ≤ 4096 → judged (lastChecks c (count few)) ≡ judged (lastChecks b (count few))
+  last-same few small =
+      first-same (cut-same (startAt rows (count few)) (omega arith)) (λ e₀.
+      first-same (ap (λ (l : List ℕ). rule 5 (ltb (position (leb rows) l) (count few)) (position (leb rows) l)) (cells-same few small)) (λ e₁.
+      first-same (cut-same (startAt rows (count few) + 2) (omega arith)) (λ e₂.
+      first-same (ap (λ (n : ℕ). rule 9 (not (eqb n 1)) 0) (one-same few small)) (λ e₃.
+      first-same (cut-same (startAt rows (count few) + 2 + 2) (omega arith)) (λ e₄.
+      first-same (ap (rowRule rows) (start-same few small)) (λ e₅.
+      first-same (too-long few small c (omega (arith, longer)) ∙ sym (too-long few small b long)) (λ e₆. refl)))))))
+
+  mid-same : (few : rows ≤ 128) → judged (midChecks c (count few)) ≡ judged (midChecks b (count few))
+  mid-same few =
+      first-same (cut-same (targetsAt rows) (omega arith)) (λ e₀.
+      first-same (ap (spareRule rows) (byte-same (2 + rows / 8) (omega arith))) (λ e₁.
+      first-same (cut-same (targetsAt rows + 2) (omega arith)) (λ e₂.
+      first-same {u = rule 9 (not (eqb (count few % rows) 0)) 0} refl (λ e₃.
+      first-same {u = eventsRule winch (count few / rows)} refl (λ e₄.
+      let even : count few % rows ≡ 0 = eqb-true (count few % rows) 0 (not-false (eqb (count few % rows) 0) (unbroken 9 (not (eqb (count few % rows) 0)) 0 e₃)) in
+      let most = inside 32 (count few / rows) .0 (unbroken 2 (outside 32 (count few / rows)) 0 e₄) in
+      last-same few (few-targets rows (count few) even few (most .1)))))))
+
+  all-same : judged (allChecks c) ≡ judged (allChecks b)
+  all-same =
+      first-same (cut-same 2 (omega arith)) (λ e₀.
+      first-same {u = rowsRule winch rows} refl (λ e₁.
+      first-same {u = rule 12 (ltb 128 rows) 0} refl (λ e₂.
+      let few : rows ≤ 128 = ltb-false 128 rows (unbroken 12 (ltb 128 rows) 0 e₂) in
+      ap (λ (n : ℕ). judged (midChecks c n)) (count-same few) ∙ mid-same few)))
+
+  -- Some check refuses it: the last one, if none before.
+  refuses : (j : Verdict) → judged (allChecks b) ≡ j → (number : ℕ) × (place : ℕ) × (j ≡ Refused number place)
+  refuses (Refused number place) e = (number, place, refl)
+  refuses Fine e =
+      let at = passed (allChecks b) e in
+      let few : rows ≤ 128 = ltb-false 128 rows (unbroken 12 (ltb 128 rows) 0 (at 2)) in
+      let even : count few % rows ≡ 0 = eqb-true (count few % rows) 0 (not-false (eqb (count few % rows) 0) (unbroken 9 (not (eqb (count few % rows) 0)) 0 (at 6))) in
+      let most = inside 32 (count few / rows) .0 (unbroken 2 (outside 32 (count few / rows)) 0 (at 7)) in
+      let small = few-targets rows (count few) even few (most .1) in
+      let end : length b ≤ startAt rows (count few) + 2 + 2 = ltb-false _ _ (unbroken 10 (ltb (startAt rows (count few) + 2 + 2) (length b)) 0 (at 14)) in
+      absurd (omega arith)
+
+  refusal : (number : ℕ) × (place : ℕ) × (judged (allChecks b) ≡ Refused number place)
+  refusal = refuses (judged (allChecks b)) refl
+
+  rows-same : numberAt c 0 ≡ rows
+  rows-same = number-same 0 (omega arith)
+
+  -- It is refused, and by the same number and place with more bytes or without.
+  long-refused : (imageRead winch 128 b ≡ read.Refused (refusal .0) (refusal .1)) × (imageRead winch 128 c ≡ read.Refused (refusal .0) (refusal .1))
+  unfolding imageRead
+  long-refused = (
+    ap (λ (j : Verdict). answered j (read.Table rows (numberAt b (targetsAt rows) / rows) (numberAt b (startAt rows (numberAt b (targetsAt rows)) + 2)))) (refusal .2),
+    ap (λ (r : ℕ).
+        let n = numberAt c (targetsAt r) in
+        answered (judged (readChecks winch 128 c r n (numberAt c (startAt r n)) (numberAt c (startAt r n + 2)))) (read.Table r (n / r) (numberAt c (startAt r n + 2)))) rows-same
+        ∙ ap (λ (j : Verdict). answered j (read.Table rows (numberAt c (targetsAt rows) / rows) (numberAt c (startAt rows (numberAt c (targetsAt rows)) + 2)))) (all-same ∙ refusal .2),
+  )
+
+-- What `reduce` prints for an input longer than any sound one does not depend on the bytes beyond the first 8,219.
+pub long-input : (input rest : List ℕ) → 8219 ≤ length input → printed (input ++ rest) ≡ printed input
+unfolding printed imageText
+long-input input rest long =
+    let size : 8217 ≤ length (drop 2 input) = omega (arith, length-drop 2 input) in
+    let two : 2 ≤ length (input ++ rest) = omega (arith, length-append input rest) in
+    let image : drop 2 (input ++ rest) ≡ drop 2 input ++ rest = drop-append-le 2 input rest (omega arith) in
+    let k = offsetIn (input ++ rest) in
+    let r = long-refused (drop 2 input) rest size in
+    rw (le-ltb (length (input ++ rest)) 2 two, le-ltb (length input) 2 (omega arith))
+    (ap (λ (b : List ℕ). textOf k b (imageRead winch 128 b)) image ∙ ap (textOf k (drop 2 input ++ rest)) (r .1) ∙ sym (ap (textOf (offsetIn input) (drop 2 input)) (r .0)))

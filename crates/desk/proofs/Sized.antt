@@ -1,0 +1,138 @@
+-- A table of at most 128 rows fits the buffers of `reduce`, and its text is read off them.
+use mathlib.Core.Path.{_≡_, refl, sym, ap, ap₂, _∙_}
+use mathlib.Core.List.{List, _++_, map}
+use Prim.Native.Nat.{ℕ, zero, suc, _+_, _-_, _*_, _/_, _%_, _^_, _≤_, _<_}
+use native.Mathlib.Nat.{mul-le-mul, zero-add, le-trans}
+use native.Mathlib.Omega.{arith}
+use lib.Arith.{digits-lt}
+use lib.ListN.{length, getD, drop, List·getD-append, length-map}
+use Rattle.tables.specs.Lists.{over}
+use Rattle.tables.specs.Table.{Table, Offset, offset, none, Valid, Agrees, markOf, unit}
+use Rattle.tables.specs.Reduction as spec
+use Rattle.tables.specs.Reduction.{reduced, records}
+use Rattle.tables.proofs.Lists.{tabulate-length}
+use Rattle.tables.proofs.Over.{over-inside}
+use Rattle.tables.proofs.Theorems.{unit-light, valid, fewest, same-events}
+use Rattle.rules.specs.Rules.{winch, tableChecks}
+use Rattle.rules.specs.declared.Verdict.{Verdict}
+use Rattle.rules.specs.declared.Verdict.the-variants.{Fine}
+use Rattle.rules.proofs.Judged.{judged-append}
+use Rattle.rules.proofs.Shape.{table-valid}
+use Rattle.scratch.specs.Scratch.{needed}
+use Rattle.scratch.proofs.Triangle.{triangle-le, triangle-square}
+use Rattle.records.specs.declared.Record.{Record}
+use Rattle.reduction.specs.declared.Answer.{Answer}
+use Rattle.reduction.specs.declared.Answer.the-variants as answer
+use Rattle.reduction.specs.Reduce.{roomChecks, verdict, answerBy, leftBy, Promise}
+use Rattle.reduction.proofs.Room.{all-fits}
+use Rattle.listing.specs.Text.{joined, decimal, text}
+use Rattle.reducer.specs.Recorded.{recordOf, recordsBy}
+use Rattle.desk.specs.Printed.{reductionText}
+use Rattle.listing.specs.Listing.{targetWord, markWords, rowLine, recordLine, blank, listing}
+
+-- The buffers are long enough.
+pub no-rule-broken : (T : Table) → Valid T → T .rows ≤ 128 → verdict T 4096 16 1024 8640 ≡ Fine
+unfolding verdict
+no-rule-broken T v few =
+    let room = roomChecks (T .rows) (T .events) 4096 16 1024 8640 in
+    let cells : T .rows * T .events ≤ 4096 = mul-le-mul few (v .events-fit) in
+    let scratch : needed (T .rows) ≤ 8640 = omega (arith, triangle-le (T .rows) 128 few, triangle-square 128) in
+    judged-append (tableChecks winch T) room ∙ rw (table-valid T (v .bytes) .1 v) (sym (all-fits (T .rows) (T .events) 4096 16 1024 8640 cells (omega arith) (omega arith) scratch))
+
+-- ---- texts of equal parts are equal
+
+joined-same : (n : ℕ) (f g : ℕ → List ℕ) → ((i : ℕ) → i < n → f i ≡ g i) → joined n f ≡ joined n g
+unfolding joined
+joined-same zero f g h = refl
+joined-same (suc n) f g h = ap₂ _++_ (joined-same n f g (λ i l. h i (omega arith))) (h n (omega arith))
+
+row-same : (events : ℕ) (cells cells′ marks marks′ : List ℕ) (i : ℕ) → ((a : ℕ) → a < events → getD cells (i * events + a) 0 ≡ getD cells′ (i * events + a) 0)
+    → markOf marks i ≡ markOf marks′ i → rowLine events cells marks i ≡ rowLine events cells′ marks′ i
+unfolding rowLine targetWord
+row-same events cells cells′ marks marks′ i hc hm =
+    ap₂ (λ (t : List ℕ) (m : ℕ). decimal i ++ t ++ markWords m) (joined-same events _ _ (λ a h. ap (λ (x : ℕ). text " " ++ decimal x) (hc a h))) hm
+
+listing-same : (rows events : ℕ) (cells cells′ marks marks′ : List ℕ) (given : ℕ) (l l′ : List Record)
+    → ((i a : ℕ) → i < rows → a < events → getD cells (i * events + a) 0 ≡ getD cells′ (i * events + a) 0)
+    → ((i : ℕ) → i < rows → markOf marks i ≡ markOf marks′ i)
+    → ((i : ℕ) → i < given → getD l i blank ≡ getD l′ i blank)
+    → listing rows events cells marks given l ≡ listing rows events cells′ marks′ given l′
+unfolding listing
+listing-same rows events cells cells′ marks marks′ given l l′ hc hm hl =
+    let rows-same : joined rows (rowLine events cells marks) ≡ joined rows (rowLine events cells′ marks′) = joined-same rows _ _ (λ i h. row-same events cells cells′ marks marks′ i (λ a. hc i a h) (hm i h)) in
+    let records-same : joined given (λ i. recordLine i (getD l i blank)) ≡ joined given (λ i. recordLine i (getD l′ i blank)) = joined-same given _ _ (λ i h. ap (recordLine i) (hl i h)) in
+    rw (rows-same, records-same)
+
+-- The reduction of a table, as it stands in the buffers.
+module _ (k : Offset) (T : Table) (v : Valid T) (few : T .rows ≤ 128) where
+  abbrev U : Table
+  U = reduced unit k T
+
+  whole : Valid U
+  whole = valid unit unit-light T v k
+
+  itself : (j : Offset) → Agrees unit j T T
+  itself (offset j) = record { same = λ w h l. refl }
+  itself none = (0, record { same = λ w h l. refl })
+
+  pub no-more-rows : U .rows ≤ T .rows
+  no-more-rows = fewest unit unit-light T v k T v refl (itself k)
+
+  same-count : U .events ≡ T .events
+  same-count = same-events unit unit-light T v k
+
+  records-size : length (records unit k T) ≡ T .rows
+  unfolding records
+  records-size = tabulate-length (T .rows) _
+
+  -- The text that is read off the buffers is that of the reduction.
+  pub listed : (cells marks : List ℕ) (bl : List Record) → length cells ≡ 4096 → length marks ≡ 16
+      → listing (U .rows) (T .events) (over cells 0 (U .cells)) (over marks 0 (U .marks)) (T .rows) (map recordOf (records unit k T) ++ drop (length (records unit k T)) bl) ≡ reductionText k T
+  unfolding reductionText
+  listed cells marks bl hc hm =
+      let cells-fit : 0 + length (U .cells) ≤ length cells
+      = omega (arith, whole .all-cells, mul-le-mul (le-trans no-more-rows few) (whole .events-fit)) in
+      let marks-fit : 0 + length (U .marks) ≤ length marks = omega (arith, whole .all-marks, no-more-rows) in
+      ap (λ (m : ℕ). listing (U .rows) m (over cells 0 (U .cells)) (over marks 0 (U .marks)) (T .rows) (map recordOf (records unit k T) ++ drop (length (records unit k T)) bl)) (sym same-count)
+      ∙ listing-same (U .rows) (U .events) (over cells 0 (U .cells)) (U .cells) (over marks 0 (U .marks)) (U .marks) (T .rows) _ (map recordOf (records unit k T))
+      (λ i a hi ha. front cells (U .cells) cells-fit (i * U .events + a) (omega (arith, whole .all-cells, digits-lt hi ha)))
+      (λ i hi. ap (λ (b : ℕ). b / 2 ^ (i % 8) % 2) (front marks (U .marks) marks-fit (i / 8) (omega (arith, whole .all-marks))))
+      (λ i hi. List·getD-append (map recordOf (records unit k T)) (drop (length (records unit k T)) bl) blank i (omega (arith, length-map (records unit k T) recordOf, records-size)))
+    where
+      front : (d s : List ℕ) → 0 + length s ≤ length d → (i : ℕ) → i < length s → getD (over d 0 s) i 0 ≡ getD s i 0
+      front d s fits i h = ap (λ (j : ℕ). getD (over d 0 s) j 0) (sym (zero-add i)) ∙ over-inside d 0 s fits i 0 h
+
+  -- What the reducer's promise says of these buffers: the answer, and the text that is read off them.
+  module _ (cells marks scratch : List ℕ) (hc : length cells ≡ 4096) (hm : length marks ≡ 16) (hs : length scratch ≡ 8640) {a : Answer} {cells′ marks′ scratch′ : List ℕ}
+      (p : Promise (verdict T (length cells) (length marks) 1024 (length scratch)) k T cells marks scratch a cells′ marks′ scratch′) where
+    fine : verdict T (length cells) (length marks) 1024 (length scratch) ≡ Fine
+    fine = rw (hc, hm, hs) (no-rule-broken T v few)
+
+    pub answered : a ≡ answer.Reduced (U .rows)
+    answered = p .answers ∙ ap (λ (u : Verdict). answerBy u (U .rows)) fine
+
+    pub never-refused : (number place : ℕ) → a ≡ answer.Refused number place → ⊥
+    never-refused number place e = differ (sym answered ∙ e)
+      where
+        differ : answer.Reduced (U .rows) ≡ answer.Refused number place → ⊥
+        differ e = let z : _≡_ {A = ℕ} 0 1 = cc in absurd (omega arith)
+
+    pub text-is : (left : ℕ) → a ≡ answer.Reduced left → (bl l : List Record) → l ≡ recordsBy (verdict T (length cells) (length marks) 1024 (length scratch)) bl (records unit k T)
+        → listing left (T .events) cells′ marks′ (T .rows) l ≡ reductionText k T
+    text-is left e bl l hl =
+        let n : left ≡ U .rows = counted (sym e ∙ answered) in
+        let c : cells′ ≡ over cells 0 (U .cells) = p .cells-after ∙ ap (λ (u : Verdict). leftBy u cells (U .cells)) fine in
+        let m : marks′ ≡ over marks 0 (U .marks) = p .marks-after ∙ ap (λ (u : Verdict). leftBy u marks (U .marks)) fine in
+        let r : l ≡ map recordOf (records unit k T) ++ drop (length (records unit k T)) bl = hl ∙ ap (λ (u : Verdict). recordsBy u bl (records unit k T)) fine in
+        ap (λ (x : ℕ). listing x (T .events) cells′ marks′ (T .rows) l) n ∙ ap (λ (x : List ℕ). listing (U .rows) (T .events) x marks′ (T .rows) l) c
+        ∙ ap (λ (x : List ℕ). listing (U .rows) (T .events) (over cells 0 (U .cells)) x (T .rows) l) m
+        ∙ ap (listing (U .rows) (T .events) (over cells 0 (U .cells)) (over marks 0 (U .marks)) (T .rows)) r ∙ listed cells marks bl hc hm
+      where
+        counted : {x y : ℕ} → answer.Reduced x ≡ answer.Reduced y → x ≡ y
+        counted e = cc
+
+    pub few-left : (left : ℕ) → a ≡ answer.Reduced left → left ≤ 128
+    few-left left e = omega (arith, no-more-rows, few, counted (sym e ∙ answered))
+      where
+        counted : {x y : ℕ} → answer.Reduced x ≡ answer.Reduced y → x ≡ y
+        counted e = cc

@@ -1,0 +1,126 @@
+// What the program `reduce` makes of the bytes that it reads: the text that it prints.
+ghost use mathlib.Core.Path.{_≡_};
+ghost use Prim.Native.Nat.{_+_, _*_, _≤_, min};
+ghost use mathlib.Core.Bool.{cond};
+ghost use lib.Dec.{eqb};
+ghost use lib.ListN.{length};
+ghost use Rattle.tables.specs.Table.{Valid, offset, none};
+ghost use Rattle.rules.specs.Rules.{tableOf, offsetOf};
+ghost use Rattle.listing.specs.Text.{filled};
+ghost use Rattle.desk.specs.Printed.{reductionText, imageText, printed};
+ghost use Rattle.listing.specs.Listing.{blank as blankRecord};
+use image_reader::Read;
+use reduction::Answer;
+use rules::Offset;
+
+// The offset that stands in two bytes, low byte first; 65,535 is none.
+fn offset_of(low: u8, high: u8) -> Offset
+    ensures { λ r. ⌜ offsetOf r ≡ cond (eqb (low + 256 * high) 65535) none (offset (low + 256 * high)) ⌝ }
+{
+    let k = (low as u16) + 256 * (high as u16);
+    if k == 65535 {
+        return Offset::None;
+    }
+    Offset::Number(k)
+}
+
+// A record to be written over.
+fn blank() -> records::Record
+    ensures { λ r. ⌜ r ≡ blankRecord ⌝ }
+{
+    records::Record {
+        depth: records::Depth::Number(0),
+        fate: records::Fate::Unreached,
+    }
+}
+
+// Writes the listing of the reduction of a valid table of at most 128 rows.
+fn write_reduction(
+    offset: Offset,
+    rows: usize,
+    events: usize,
+    start: usize,
+    cells: &[u16],
+    marks: &[u8],
+    out: &mut [u8],
+) -> usize
+    requires { ⌜ Valid (tableOf rows events start (now cells) (now marks)) × (rows ≤ 128) ⌝ }
+    ensures { λ r. ⌜ (now (out .exit) ≡ filled (now (out .entry)) (reductionText (offsetOf offset) (tableOf rows events start (now (cells .entry)) (now (marks .entry)))))
+        × (r ≡ min (length (reductionText (offsetOf offset) (tableOf rows events start (now (cells .entry)) (now (marks .entry))))) (length (now (out .entry)))) ⌝ }
+{
+    let mut newcells = [0u16; 4096];
+    let mut newmarks = [0u8; 16];
+    let mut scratch = [0u16; 8640];
+    let done = reducer::reduce_recorded(
+        offset,
+        rows,
+        events,
+        start,
+        cells,
+        marks,
+        &mut newcells,
+        &mut newmarks,
+        [blank(); 1024],
+        &mut scratch,
+    );
+    let answer = done.answer;
+    let records = done.records;
+    match answer {
+        Answer::Refused(number, place) => listing::write_refusal(number, place, out),
+        Answer::Reduced(left) => listing::write_listing(
+            left as u16,
+            events as u16,
+            &newcells,
+            &newmarks,
+            rows as u16,
+            records,
+            out,
+        ),
+    }
+}
+
+// Writes the text for an image.
+fn write_image_text(offset: Offset, image: &[u8], out: &mut [u8]) -> usize
+    ensures { λ r. ⌜ (now (out .exit) ≡ filled (now (out .entry)) (imageText (offsetOf offset) (now (image .entry))))
+        × (r ≡ min (length (imageText (offsetOf offset) (now (image .entry)))) (length (now (out .entry)))) ⌝ }
+{
+    let mut cells = [0u16; 4096];
+    let mut marks = [0u8; 16];
+    match image_reader::read_image(rules::winch(), 128, image, &mut cells, &mut marks) {
+        Read::Refused(number, place) => listing::write_refusal(number, place, out),
+        Read::Table(rows, events, start) => {
+            let count = rows * events;
+            let bytes = marks::mark_bytes(rows);
+            write_reduction(
+                offset,
+                rows,
+                events,
+                start,
+                &cells[..count],
+                &marks[..bytes],
+                out,
+            )
+        }
+    }
+}
+
+// Writes what `reduce` prints for its input, as far as there is room, and answers how many bytes that are: all of them if fewer than there is room for.
+pub fn write_text(input: &[u8], out: &mut [u8]) -> usize
+    ensures { λ r. ⌜ (now (out .exit) ≡ filled (now (out .entry)) (printed (now (input .entry))))
+        × (r ≡ min (length (printed (now (input .entry)))) (length (now (out .entry)))) ⌝ }
+{
+    if input.len() < 2 {
+        return listing::write_refusal(8, 0, out);
+    }
+    let offset = offset_of(input[0], input[1]);
+    write_image_text(offset, &input[2..], out)
+}
+
+// The same for programs in C or Rust.
+#[no_mangle]
+pub extern "C" fn gelfost_reduce_text(input: &[u8], out: &mut [u8]) -> usize
+    ensures { λ r. ⌜ (now (out .exit) ≡ filled (now (out .entry)) (printed (now (input .entry))))
+        × (r ≡ min (length (printed (now (input .entry)))) (length (now (out .entry)))) ⌝ }
+{
+    write_text(input, out)
+}

@@ -1,0 +1,28 @@
+use native.Mathlib.Omega.{arith}
+use mathlib.Core.List.{[], _∷_}
+use Rattle.listing.proofs.Buffer.{puts-byte, puts-out}
+use borrow.Author.Needs.{needs}
+use Rattle.listing.proofs.put_byte.Statement.{statement}
+use Rattle.listing.proofs.put_byte.Tie as tie
+
+slice-write-out : tie.Need-slice-write-out
+slice-write-out c = search needs
+
+add-result : tie.Need-add-result
+add-result c = search needs
+
+same-length : tie.Need-same-length
+same-length c = search needs
+
+returns : tie.Need-returns
+returns c =
+    let a = c .before .args in
+    puts-byte (a .out .now) (a .at) (a .byte) (c .if1 .taken)
+
+returns-2 : tie.Need-returns-2
+returns-2 c =
+    let a = c .before .args in
+    puts-out (a .out .now) (a .at) (a .byte ∷ []) (omega arith)
+
+pub put-byte-spec : {M : Type 1} → statement M
+put-byte-spec = tie.close (tie.spec slice-write-out add-result same-length returns returns-2)

@@ -1,0 +1,11 @@
+//! An independent reading of document 01 ("Ready tables and their
+//! reduction"), made to be compared with the product.
+
+pub mod cutter;
+pub mod judge;
+pub mod parallel;
+pub mod product;
+pub mod random;
+pub mod rules;
+pub mod shapes;
+pub mod table;

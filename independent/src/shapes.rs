@@ -1,0 +1,190 @@
+//! Tables of many shapes, so that finite depths and finite distances occur
+//! often (a table whose targets are all random has hardly any).
+
+use crate::random::Random;
+use crate::table::Table;
+
+#[derive(Clone, Copy, Debug, PartialEq, Eq)]
+pub enum Shape {
+    /// All targets random.
+    Free,
+    /// Mostly one row after the other; some jumps forward, few back.
+    Chain,
+    /// Rows like a tree, its leaves leading to a few last rows.
+    Tree,
+    /// Rows in layers, each leading into the next; the last layer has rounds.
+    Layers,
+    /// Copies of the rows of a small table, one group per row, with some marks
+    /// changed in the copies that only finitely many runs reach.
+    Copies,
+    /// Every target is a later row, down to one last row or round, with few
+    /// different targets per row, so that rows soon fall together.
+    Falling,
+    /// Rows that read away an event or two and then do the same, with
+    /// different marks: finite distances between endless rows.
+    Echo,
+}
+
+pub const SHAPES: [Shape; 7] = [
+    Shape::Free,
+    Shape::Chain,
+    Shape::Tree,
+    Shape::Layers,
+    Shape::Copies,
+    Shape::Falling,
+    Shape::Echo,
+];
+
+/// A table of the shape with so many rows and events.
+pub fn table(random: &mut Random, shape: Shape, rows: usize, events: usize) -> Table {
+    let mut targets = vec![0; rows * events];
+    // How many of how many rows are ready.
+    let &(parts, whole) = random.pick(&[(1, 2), (1, 2), (1, 8), (7, 8), (1, 30), (0, 1), (1, 1)]);
+    let mut marks: Vec<bool> = (0..rows).map(|_| random.chance(parts, whole)).collect();
+    let mut start = 0;
+    let last = rows - 1;
+    match shape {
+        Shape::Free => {
+            targets.iter_mut().for_each(|t| *t = random.below(rows));
+            start = random.below(rows);
+        }
+        Shape::Chain => {
+            let backs = random.below(3);
+            let jump = random.between(1, 4);
+            for (cell, target) in targets.iter_mut().enumerate() {
+                let row = cell / events;
+                *target = (row + if random.chance(3, 4) { 1 } else { random.between(1, jump) })
+                    .min(last);
+            }
+            for _ in 0..backs {
+                let row = random.between(rows / 2, last);
+                targets[row * events + random.below(events)] = random.between(row / 2, row);
+            }
+            if random.chance(1, 2) {
+                targets[last * events] = random.between(last.saturating_sub(5), last);
+            }
+            if random.chance(1, 3) {
+                start = random.below(rows);
+            }
+            quieten_end(random, &mut marks);
+        }
+        Shape::Tree => {
+            let ends = random.between(1, rows.min(4));
+            for (cell, target) in targets.iter_mut().enumerate() {
+                *target = if cell + 1 < rows - ends {
+                    cell + 1
+                } else {
+                    random.between(rows - ends, last)
+                };
+            }
+            for _ in 0..random.below(3) {
+                let cell = random.below(rows * events);
+                targets[cell] = random.between(cell / events, last);
+            }
+        }
+        Shape::Layers => {
+            let width = random.between(1, rows.min(8));
+            let back_one = random.chance(1, 4);
+            for (cell, target) in targets.iter_mut().enumerate() {
+                let next = (cell / events / width + 1) * width;
+                *target = if next >= rows {
+                    // The last layer leads into itself, or sometimes back.
+                    let low = if back_one { next.saturating_sub(2 * width) } else { next - width };
+                    random.between(low, last)
+                } else {
+                    random.between(next, (next + width - 1).min(last))
+                };
+            }
+        }
+        Shape::Copies => {
+            let base = random.between(1, rows.min(6));
+            let small: Vec<usize> = (0..base * events).map(|_| random.below(base)).collect();
+            let ready: Vec<bool> = (0..base).map(|_| random.chance(1, 2)).collect();
+            // Row r does as row kind(r) of the small table; the last rows are
+            // the small table itself.
+            let mut kind: Vec<usize> = (0..rows).map(|_| random.below(base)).collect();
+            for row in 0..base {
+                kind[rows - base + row] = row;
+            }
+            for row in 0..rows {
+                let core = row >= rows - base;
+                for event in 0..events {
+                    let wanted = small[kind[row] * events + event];
+                    let mut target = rows - base + wanted;
+                    if !core && random.chance(3, 4) {
+                        let choice: Vec<usize> =
+                            (row + 1..rows).filter(|&r| kind[r] == wanted).take(5).collect();
+                        target = *random.pick(&choice);
+                    }
+                    targets[row * events + event] = target;
+                }
+                marks[row] = ready[kind[row]] ^ (!core && random.chance(1, 6));
+            }
+        }
+        Shape::Falling => {
+            let rounds = random.chance(1, 2);
+            let reach = random.between(1, 6);
+            for row in 0..rows {
+                let one = (row + random.between(1, reach)).min(last);
+                let two = (row + random.between(1, reach)).min(last);
+                for event in 0..events {
+                    targets[row * events + event] = if random.chance(4, 5) { one } else { two };
+                }
+            }
+            if rounds && rows > 3 {
+                targets[last * events + random.below(events)] = rows - 3;
+            }
+            quieten_end(random, &mut marks);
+        }
+        Shape::Echo => {
+            // Every row has one of few patterns of targets, so that many rows
+            // fall together after one event whatever their marks are.
+            let patterns = random.between(1, 4);
+            let pattern: Vec<usize> =
+                (0..patterns * events).map(|_| random.below(rows)).collect();
+            for row in 0..rows {
+                let own = random.below(patterns);
+                for event in 0..events {
+                    targets[row * events + event] = if random.chance(1, 12) {
+                        random.below(rows)
+                    } else {
+                        pattern[own * events + event]
+                    };
+                }
+            }
+            start = random.below(rows);
+        }
+    }
+    let mut table = Table { rows, events, start, targets, marks };
+    if random.chance(1, 6) {
+        // An end or two that nothing else leads to, as far as it happens.
+        table.start = random.below(rows);
+    }
+    if random.chance(3, 4) {
+        table = renumbered(&table, &random.order(rows));
+    }
+    assert!(table.is_sound());
+    table
+}
+
+/// Equal marks towards the end, so that distances become finite.
+fn quieten_end(random: &mut Random, marks: &mut [bool]) {
+    if random.chance(2, 3) {
+        let from = random.below(marks.len());
+        let mark = random.chance(1, 2);
+        marks[from..].iter_mut().for_each(|m| *m = mark);
+    }
+}
+
+/// The same table with row r called `names[r]`.
+pub fn renumbered(table: &Table, names: &[usize]) -> Table {
+    let mut other = table.clone();
+    other.start = names[table.start];
+    for row in 0..table.rows {
+        other.marks[names[row]] = table.marks[row];
+        for event in 0..table.events {
+            other.targets[names[row] * table.events + event] = names[table.target(row, event)];
+        }
+    }
+    other
+}
