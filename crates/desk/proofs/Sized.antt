@@ -7,12 +7,11 @@ use native.Mathlib.Omega.{arith}
 use lib.Arith.{digits-lt}
 use lib.ListN.{length, getD, drop, List·getD-append, length-map}
 use Rattle.tables.specs.Lists.{over}
-use Rattle.tables.specs.Table.{Table, Offset, offset, none, Valid, Agrees, markOf, unit}
+use Rattle.tables.specs.Table.{Table, Offset, Valid, markOf, unit}
 use Rattle.tables.specs.Reduction as spec
 use Rattle.tables.specs.Reduction.{reduced, records}
-use Rattle.tables.proofs.Lists.{tabulate-length}
 use Rattle.tables.proofs.Over.{over-inside}
-use Rattle.tables.proofs.Theorems.{unit-light, valid, fewest, same-events}
+use Rattle.tables.proofs.Theorems.{unit-light, never-more, records-length, valid, same-events}
 use Rattle.rules.specs.Rules.{winch, tableChecks}
 use Rattle.rules.specs.declared.Verdict.{Verdict}
 use Rattle.rules.specs.declared.Verdict.the-variants.{Fine}
@@ -63,6 +62,9 @@ listing-same rows events cells cells′ marks marks′ given l l′ hc hm hl =
     let records-same : joined given (λ i. recordLine i (getD l i blank)) ≡ joined given (λ i. recordLine i (getD l′ i blank)) = joined-same given _ _ (λ i h. ap (recordLine i) (hl i h)) in
     rw (rows-same, records-same)
 
+counted : {x y : ℕ} → answer.Reduced x ≡ answer.Reduced y → x ≡ y
+counted e = cc
+
 -- The reduction of a table, as it stands in the buffers.
 module _ (k : Offset) (T : Table) (v : Valid T) (few : T .rows ≤ 128) where
   abbrev U : Table
@@ -71,19 +73,14 @@ module _ (k : Offset) (T : Table) (v : Valid T) (few : T .rows ≤ 128) where
   whole : Valid U
   whole = valid unit unit-light T v k
 
-  itself : (j : Offset) → Agrees unit j T T
-  itself (offset j) = record { same = λ w h l. refl }
-  itself none = (0, record { same = λ w h l. refl })
-
-  pub no-more-rows : U .rows ≤ T .rows
-  no-more-rows = fewest unit unit-light T v k T v refl (itself k)
+  no-more-rows : U .rows ≤ T .rows
+  no-more-rows = never-more unit unit-light T v k
 
   same-count : U .events ≡ T .events
   same-count = same-events unit unit-light T v k
 
   records-size : length (records unit k T) ≡ T .rows
-  unfolding records
-  records-size = tabulate-length (T .rows) _
+  records-size = records-length unit unit-light T v k
 
   -- The text that is read off the buffers is that of the reduction.
   pub listed : (cells marks : List ℕ) (bl : List Record) → length cells ≡ 4096 → length marks ≡ 16
@@ -127,12 +124,6 @@ module _ (k : Offset) (T : Table) (v : Valid T) (few : T .rows ≤ 128) where
         ap (λ (x : ℕ). listing x (T .events) cells′ marks′ (T .rows) l) n ∙ ap (λ (x : List ℕ). listing (U .rows) (T .events) x marks′ (T .rows) l) c
         ∙ ap (λ (x : List ℕ). listing (U .rows) (T .events) (over cells 0 (U .cells)) x (T .rows) l) m
         ∙ ap (listing (U .rows) (T .events) (over cells 0 (U .cells)) (over marks 0 (U .marks)) (T .rows)) r ∙ listed cells marks bl hc hm
-      where
-        counted : {x y : ℕ} → answer.Reduced x ≡ answer.Reduced y → x ≡ y
-        counted e = cc
 
     pub few-left : (left : ℕ) → a ≡ answer.Reduced left → left ≤ 128
     few-left left e = omega (arith, no-more-rows, few, counted (sym e ∙ answered))
-      where
-        counted : {x y : ℕ} → answer.Reduced x ≡ answer.Reduced y → x ≡ y
-        counted e = cc

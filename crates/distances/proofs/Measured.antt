@@ -2,17 +2,16 @@
 use mathlib.Core.Path.{_≡_, refl, sym, ap, _∙_}
 use mathlib.Core.Bool.{Bool, true, false, not}
 use mathlib.Core.List.{List}
-use mathlib.Core.Logic.{_⊎_, inl, inr}
+use mathlib.Core.Logic.{inl, inr}
 use Prim.Native.Nat.{ℕ, _≤_, _<_}
 use native.Mathlib.Omega.{arith}
 use borrow.Author.Tests.{not-true, not-false}
 use lib.ListN.{length, drop}
-use Rattle.automata.specs.Runs.{Sound, Len, len, endless}
+use Rattle.automata.specs.Runs.{Sound}
 use Rattle.automata.proofs.Tests.{either}
 use Rattle.tables.specs.Table.{Table, machine, eventsOf}
 use Rattle.tables.specs.Lists.{over}
 use Rattle.tables.specs.Lengths.{distance}
-use Rattle.tables.proofs.Lengths.{Below, distance-below}
 use Rattle.rules.specs.Rules.{winch, tableOf}
 use Rattle.rules.proofs.Shape.{Shape}
 use Rattle.scratch.specs.Scratch.{triangle, pairAt, lenCell, weightBy, workable}
@@ -67,14 +66,6 @@ module _ (mask : ℕ) (T : Table) (s : List ℕ) where
         p
         hq
         hp
-
-    -- A finite distance is below the number of rows.
-    pub measured-small : (q p : ℕ) → q < T .rows → p < T .rows → (pairAt (measured mask T s) q p < T .rows) ⊎ (pairAt (measured mask T s) q p ≡ 65535)
-    measured-small q p hq hp = pick (distance (eventsOf (weightBy mask) T) (machine T) q p) (distance-below (eventsOf (weightBy mask) T) (machine T) q p) (measured-pair q p hq hp)
-      where
-        pick : (x : Len) → Below (T .rows) x → pairAt (measured mask T s) q p ≡ lenCell x → (pairAt (measured mask T s) q p < T .rows) ⊎ (pairAt (measured mask T s) q p ≡ 65535)
-        pick (len L) b e = inl (omega arith)
-        pick endless b e = inr e
 
     written-length : length (measured mask T s) ≡ length s
     unfolding distanceCells

@@ -6,6 +6,7 @@ use native.Mathlib.Omega.{arith}
 use lib.ListN.{length, drop}
 use Rattle.tables.specs.Table.{Table, Offset, Valid, unit}
 use Rattle.tables.specs.Reduction.{reduced, records as recordsOf}
+use Rattle.tables.proofs.Theorems.{unit-light, records-length}
 use Rattle.rules.specs.declared.Verdict.{Verdict}
 use Rattle.rules.specs.declared.Verdict.the-variants.{Fine, Refused}
 use Rattle.scratch.specs.Scratch.{needed, cleared}
@@ -18,7 +19,7 @@ use Rattle.reduction.specs.declared.Done.{Done}
 use Rattle.reduction.proofs.Room.{Roomy, fine-roomy}
 use Rattle.reduction.proofs.Promised.{promised}
 use Rattle.reducer.specs.Recorded.{recordOf, recordsBy}
-use Rattle.reducer.proofs.Told.{all-told, records-size}
+use Rattle.reducer.proofs.Told.{all-told}
 
 -- The offset and the table; the lent cells, mark bytes, records and scratch at entry; what the work answers; the cells, mark bytes and scratch after it;
 -- the records after they are written; the scratch after it is cleared.
@@ -35,7 +36,7 @@ module _ (k : Offset) (T : Table) (cells marks : List ℕ) (records : List Recor
       = fine-roomy T (length cells) (length marks) (length records) (length scratch) e (sound e) in
       let n : ℕ = T .rows in
       let all : min n (length records) ≡ n = omega (arith, r .records-fit) in
-      let size : length (recordsOf unit k T) ≡ n = records-size k T in
+      let size : length (recordsOf unit k T) ≡ n = records-length unit unit-light T (r .valid) k in
       ap (written records (worked k T scratch) n) all ∙ written-is records (worked k T scratch) n n (r .records-fit)
       ∙ ap (λ (l : List Record). l ++ drop n records) (all-told k T (r .valid) scratch (r .scratch-fits))
       ∙ ap (λ (m : ℕ). map recordOf (recordsOf unit k T) ++ drop m records) (sym size)

@@ -13,7 +13,7 @@ use Rattle.tables.specs.Table.{Table, Offset, Valid, machine, eventsOf, unit}
 use Rattle.tables.specs.Lengths.{isZero, oneLess, lead, reached, depth}
 use Rattle.tables.specs.Reduction as spec
 use Rattle.tables.specs.Reduction.{kept, fold, number, records}
-use Rattle.tables.proofs.Lists.{tabulate-length, tabulate-same}
+use Rattle.tables.proofs.Lists.{tabulate-same}
 use Rattle.tables.proofs.Lengths.{Below, depth-below}
 use Rattle.tables.proofs.Theorems.{unit-light, kept-itself}
 use Rattle.scratch.specs.Scratch.{needed, lenCell}
@@ -68,7 +68,3 @@ module _ (k : Offset) (T : Table) (v : Valid T) (s : List ℕ) (room : needed (T
   pub all-told : tabulate (T .rows) (recordAt (worked k T s) (T .rows)) ≡ map recordOf (records unit k T)
   unfolding records
   all-told = tabulate-same (T .rows) (recordAt (worked k T s) (T .rows)) (λ q. recordOf (told q)) record-told ∙ sym (map-tabulate recordOf (T .rows) told)
-
-pub records-size : (k : Offset) (T : Table) → length (records unit k T) ≡ T .rows
-unfolding records
-records-size k T = tabulate-length (T .rows) _

@@ -7,10 +7,10 @@ use native.Mathlib.Omega.{arith}
 use lib.ListN.{length, take, replicate}
 use Rattle.automata.specs.Runs.{AgreeFrom}
 use Rattle.tables.specs.Lists.{over}
-use Rattle.tables.specs.Table.{Table, Offset, offset, none, Valid, markBytes, machine, eventsOf, unit, Agrees, Fewest}
+use Rattle.tables.specs.Table.{Table, Offset, offset, none, Valid, markBytes, machine, eventsOf, unit, Fewest}
 use Rattle.tables.specs.Reduction.{reduced}
 use Rattle.tables.proofs.Over.{over-none, take-over}
-use Rattle.tables.proofs.Theorems.{unit-light, valid, agrees, agrees-none, fewest, same-events, start-zero}
+use Rattle.tables.proofs.Theorems.{unit-light, never-more, valid, agrees, agrees-none, fewest, same-events, start-zero}
 use Rattle.rules.specs.declared.Verdict.{Verdict}
 use Rattle.rules.specs.declared.Verdict.the-variants.{Fine, Refused}
 use Rattle.scratch.specs.Scratch.{triangle, needed, cleared}
@@ -40,18 +40,11 @@ module _ (k : Offset) (T : Table) (cells marks scratch : List ℕ) (records : �
   abbrev U : Table
   U = reduced unit k T
 
-  itself : (k : Offset) → Agrees unit k T T
-  itself (offset k) = record { same = λ w h l. refl }
-  itself none = (0, record { same = λ w h l. refl })
-
-  never-more : Valid T → U .rows ≤ T .rows
-  never-more h = fewest unit unit-light T h k T h refl (itself k)
-
   -- What stands in the buffers is the reduced table.
   written-is : Roomy T (length cells) (length marks) records (length scratch) → written (U .rows) (T .events) (over cells 0 (U .cells)) (over marks 0 (U .marks)) ≡ U
   written-is r =
       let w = valid unit unit-light T (r .valid) k in
-      let rows = never-more (r .valid) in
+      let rows = never-more unit unit-light T (r .valid) k in
       let e = same-events unit unit-light T (r .valid) k in
       let wide : U .rows * T .events ≡ 0 + length (U .cells) = omega (arith, w .all-cells, ap (λ (m : ℕ). U .rows * m) e) in
       let bytes : markBytes (U .rows) ≡ 0 + length (U .marks) = omega (arith, w .all-marks) in

@@ -16,6 +16,7 @@ use Rattle.tables.proofs.Lengths.{Below, distance-is, finite-distance, 
 use Rattle.tables.specs.Table.{Table, Offset, offset, none, Valid, Agrees, Fewest, machine, eventsOf, unit}
 use Rattle.tables.specs.Lists.{some}
 use Rattle.tables.specs.Reduction.{kept, fold, numbering, renumbered, reduced, records}
+use Rattle.tables.proofs.Lists.{tabulate-length}
 use Rattle.tables.proofs.Marks.{mark-small}
 use Rattle.tables.proofs.Folds.{kept-own}
 use Rattle.tables.proofs.Reduced.{sound-of, kept-in, count-kept, reduced-valid, reduced-agrees, reduced-fewest}
@@ -93,6 +94,19 @@ module _ (weight : ℕ → ℕ) (light : (a : ℕ) → weight a ≤ 1) (T : Tabl
   rows-kept (offset k) = count-kept weight light T v k
   rows-kept none = ap (λ (U : Table). U .rows) (at-none (2 * T .rows) (omega arith)) ∙ count-kept weight light T v (2 * T .rows)
       ∙ ap length (sym (kept-none E M (2 * T .rows) (v .some-row) (omega arith)))
+
+  itself : (k : Offset) → Agrees weight k T T
+  itself (offset k) = record { same = λ w h l. refl }
+  itself none = (0, record { same = λ w h l. refl })
+
+  -- A reduction has no more rows than the table.
+  pub never-more : (k : Offset) → reduced weight k T .rows ≤ T .rows
+  never-more k = fewest k T v refl (itself k)
+
+  -- There is a record for each row.
+  pub records-length : (k : Offset) → length (records weight k T) ≡ T .rows
+  unfolding records
+  records-length k = tabulate-length (T .rows) _
 
   -- A reached row is kept just if it folds into itself.
   pub kept-itself : (k : Offset) (q : ℕ) → q < T .rows → reached E M q ≡ true → some (eqb q) (kept E M k) ≡ eqb (fold E M k q) q
