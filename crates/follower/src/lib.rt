@@ -198,15 +198,15 @@ fn is_settled(offset: rules::Offset, count: u16) -> bool
 
 // The mark of a follower's row, and whether it is settled.
 pub fn answer(
+    offset: rules::Offset,
     f: Follower,
     rows: usize,
     events: usize,
     start: usize,
     cells: &[u16],
     marks: &[u8],
-    offset: rules::Offset,
 ) -> Shown
-    ensures { λ r. ⌜ r ≡ shown (tableOf rows events start (now (cells .entry)) (now (marks .entry))) (offsetOf offset) (f .row) (f .count) ⌝ }
+    ensures { λ r. ⌜ r ≡ shown (offsetOf offset) (tableOf rows events start (now (cells .entry)) (now (marks .entry))) (f .row) (f .count) ⌝ }
 {
     match checked(rows, events, start, cells, marks) {
         rules::Verdict::Refused(number, place) => Shown::Refused(number, place),

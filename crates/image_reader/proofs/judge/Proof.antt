@@ -1,5 +1,6 @@
 use mathlib.Core.Path.{sym, _∙_}
 use borrow.Author.Tests.{lt-ltb, le-ltb}
+use Rattle.image_reader.specs.Read.{atMost}
 use Rattle.image_reader.specs.Sections.{sectionsRead}
 use Rattle.image_reader.proofs.Sections.{refuses-read, marks-got}
 use borrow.Author.Needs.{needs}
@@ -25,7 +26,7 @@ returns c = refuses-read _ _ _ _ _ _ (c .before .before .before .marks-section .
 targets-section-requires : tie.Need-targets-section-requires
 targets-section-requires c κs =
     let a = c .before .before .before .before .before .args in
-    marks-got (a .limits) (a .small) (a .image .now) _ _ (sym (c .before .before .before .marks-section .ensures) ∙ c .before .marks .given .1)
+    marks-got (a .limits) (atMost (a .small)) (a .image .now) _ _ (sym (c .before .before .before .marks-section .ensures) ∙ c .before .marks .given .1)
 
 enum-known-targets : tie.Need-enum-known-targets
 enum-known-targets c = search needs
