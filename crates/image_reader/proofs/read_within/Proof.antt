@@ -17,15 +17,6 @@ use borrow.Author.Needs.{needs}
 use Rattle.image_reader.proofs.read_within.Statement.{statement}
 use Rattle.image_reader.proofs.read_within.Tie as tie
 
-judge-requires : tie.Need-judge-requires
-judge-requires c κs = search needs
-
-enum-known-judged : tie.Need-enum-known-judged
-enum-known-judged c = search needs
-
-enum-told : tie.Need-enum-told
-enum-told c = search needs
-
 returns : tie.Need-returns
 returns c =
     let a = c .before .before .before .before .before .before .args in
@@ -52,9 +43,6 @@ returns-2 c =
     let e : imageRead (a .limits) (atMost (a .small)) b ≡ Table (g .0 .0) (g .0 .1 .0) (g .0 .1 .1 .0) = sym (j .ensures ∙ image-order (a .limits) (atMost (a .small)) b) ∙ g .1 in
     reads-short (a .limits) (atMost (a .small)) b (a .cells .now) (a .marks .now) _ _ _ e (or-left _ _ (lt-ltb _ _ (c .if1 .taken)))
 
-mark-bytes-requires : tie.Need-mark-bytes-requires
-mark-bytes-requires c κs = search needs
-
 returns-3 : tie.Need-returns-3
 returns-3 c =
     let a = c .before .before .before .before .before .before .before .before .before .before .args in
@@ -74,9 +62,6 @@ copy-marks-requires c κs =
     let h = read-holds (a .limits) (atMost (a .small)) b (λ i. omega (arith, c .before .before .before .before .before .before .before .before .before .before .shared-slice-known .given i)) (g .0 .0) (g .0 .1 .0) (g .0 .1 .1 .0) e in
     (omega (arith, h .fits, c .before .before .mark-bytes .ensures), omega arith)
 
-add-copy-cells : tie.Need-add-copy-cells
-add-copy-cells c = search needs
-
 copy-cells-requires : tie.Need-copy-cells-requires
 copy-cells-requires c κs =
     let a = c .before .before .before .before .before .before .before .before .before .before .before .before .before .before .before .args in
@@ -86,12 +71,6 @@ copy-cells-requires c κs =
     let e : imageRead (a .limits) (atMost (a .small)) b ≡ Table (g .0 .0) (g .0 .1 .0) (g .0 .1 .1 .0) = sym (j .ensures ∙ image-order (a .limits) (atMost (a .small)) b) ∙ g .1 in
     let h = read-holds (a .limits) (atMost (a .small)) b (λ i. omega (arith, c .before .before .before .before .before .before .before .before .before .before .before .before .before .before .shared-slice-known .given i)) (g .0 .0) (g .0 .1 .0) (g .0 .1 .1 .0) e in
     (omega (arith, h .fits, c .before .before .before .before .before .before .mark-bytes .ensures), omega arith)
-
-same-length : tie.Need-same-length
-same-length c = search needs
-
-same-length-2 : tie.Need-same-length-2
-same-length-2 c = search needs
 
 returns-4 : tie.Need-returns-4
 returns-4 c =
@@ -114,17 +93,17 @@ pub read-within-spec : {M : Type 1} → statement M
 read-within-spec =
     tie.close
     (tie.spec
-    judge-requires
-    enum-known-judged
-    enum-told
+    (λ c κs. search needs)
+    (λ c. search needs)
+    (λ c. search needs)
     returns
     mul-count
     returns-2
-    mark-bytes-requires
+    (λ c κs. search needs)
     returns-3
     copy-marks-requires
-    add-copy-cells
+    (λ c. search needs)
     copy-cells-requires
-    same-length
-    same-length-2
+    (λ c. search needs)
+    (λ c. search needs)
     returns-4)
