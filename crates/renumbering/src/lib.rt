@@ -133,7 +133,8 @@ fn new_target(cells: &[u16], rows: u16, events: u16, scratch: &[u16], c: usize) 
     let wide = rules::wide(events);
     let row = scratch::cell(scratch, scratch::queue_at(rows) + c / wide);
     let to = scratch::target(cells, events, row, (c % wide) as u16);
-    scratch::cell(scratch, scratch::numbers_at(rows) + rules::wide(to))
+    let at = scratch::numbers_at(rows) + rules::wide(to);
+    scratch::cell(scratch, at)
 }
 
 // Writes the targets of the new table.
@@ -162,7 +163,8 @@ fn new_mark(marks: &[u8], rows: u16, scratch: &[u16], count: usize, i: usize) ->
 {
     if i < count {
         let row = scratch::cell(scratch, scratch::queue_at(rows) + i);
-        return marks::mark(marks, rules::wide(row));
+        let from = rules::wide(row);
+        return marks::mark(marks, from);
     }
     0
 }
@@ -200,18 +202,13 @@ fn renumber_within(
         × (now (newcells .exit) ≡ over (now (newcells .entry)) 0 (U .cells))
         × (now (newmarks .exit) ≡ over (now (newmarks .entry)) 0 (U .marks))) ⌝ }
 {
-    let count = line_up(rows, events, start, cells, marks, scratch);
-    number_rows(rows, scratch, count);
-    write_cells(
-        cells,
-        rows,
-        events,
-        scratch,
-        count * rules::wide(events),
-        newcells,
-    );
-    write_marks(marks, rows, scratch, count, newmarks);
-    count
+    let lined = line_up(rows, events, start, cells, marks, scratch);
+    number_rows(rows, scratch, lined);
+    let width = rules::wide(events);
+    let total = lined * width;
+    write_cells(cells, rows, events, scratch, total, newcells);
+    write_marks(marks, rows, scratch, lined, newmarks);
+    lined
 }
 
 // Numbers and writes the table that is left when rows fold as the scratch says, and answers how many rows it has; where there is no room

@@ -12,8 +12,8 @@ add-cell c = omega (arith, c .queue-at .ensures, triangle-bound (c .before .befo
 cast-target : tie.Need-cast-target
 cast-target c = omega (arith, mod-le (c .before .before .before .before .before .args .c) (c .before .before .wide .result), c .before .before .before .before .before .pre .1)
 
-add-cell-2 : tie.Need-add-cell-2
-add-cell-2 c = omega (arith, c .before .numbers-at .ensures, triangle-bound (c .before .before .before .before .before .before .before .before .args .rows) (omega arith))
+add-at : tie.Need-add-at
+add-at c = omega (arith, c .before .numbers-at .ensures, triangle-bound (c .before .before .before .before .before .before .before .before .args .rows) (omega arith))
 
 returns : tie.Need-returns
 returns c =
@@ -35,6 +35,6 @@ new-target-spec =
     (λ c κs. search needs)
     (λ c κs. search needs)
     (λ c κs. search needs)
-    add-cell-2
+    add-at
     (λ c κs. search needs)
     returns)

@@ -12,39 +12,54 @@ number-rows-requires : tie.Need-number-rows-requires
 number-rows-requires c κs =
     let z = c .before .before .before .before .before .before .before .before .before .before in
     let a = z .args in
-    (lined-room (tableOf (a .rows) (a .events) (a .start) (a .cells .now) (a .marks .now)) (z .pre .0) (a .scratch .now) (z .pre .1 .0) (c .before .before .before .line-up .last .1 .1 .1 .1 .1 .0) (c .before .before .before .line-up .ensures .1) (c .before .before .before .line-up .result) (c .before .before .before .line-up .ensures .0), lined-count (tableOf (a .rows) (a .events) (a .start) (a .cells .now) (a .marks .now)) (z .pre .0) (a .scratch .now) (z .pre .1 .0) (c .before .before .before .line-up .last .1 .1 .1 .1 .1 .0) (c .before .before .before .line-up .ensures .1) (c .before .before .before .line-up .result) (c .before .before .before .line-up .ensures .0))
+    let T = tableOf (a .rows) (a .events) (a .start) (a .cells .now) (a .marks .now) in
+    let up = c .before .before .before .line-up in
+    let line = up .last .1 .1 .1 .1 .1 .0 in
+    (lined-room T (z .pre .0) (a .scratch .now) (z .pre .1 .0) line (up .ensures .1) (up .result) (up .ensures .0), lined-count T (z .pre .0) (a .scratch .now) (z .pre .1 .0) line (up .ensures .1) (up .result) (up .ensures .0))
 
-mul-write-cells : tie.Need-mul-write-cells
-mul-write-cells c =
-    let z = c .before .before .before .before .before .before .before .before .before .before .before .before .before .before .before in
+mul-total : tie.Need-mul-total
+mul-total c =
+    let z = c .before .before .before .before .before .before .before .before .before .before .before .before .before .before in
     let a = z .args in
-    let h = total-fits (tableOf (a .rows) (a .events) (a .start) (a .cells .now) (a .marks .now)) (z .pre .0) (c .before .before .before .before .before .before .before .before .line-up .result) (lined-count (tableOf (a .rows) (a .events) (a .start) (a .cells .now) (a .marks .now)) (z .pre .0) (a .scratch .now) (z .pre .1 .0) (c .before .before .before .before .before .before .before .before .line-up .last .1 .1 .1 .1 .1 .0) (c .before .before .before .before .before .before .before .before .line-up .ensures .1) (c .before .before .before .before .before .before .before .before .line-up .result) (c .before .before .before .before .before .before .before .before .line-up .ensures .0)) (c .wide .ensures) in
+    let T = tableOf (a .rows) (a .events) (a .start) (a .cells .now) (a .marks .now) in
+    let up = c .before .before .before .before .before .before .before .line-up in
+    let line = up .last .1 .1 .1 .1 .1 .0 in
+    let h = total-fits T (z .pre .0) (up .result) (lined-count T (z .pre .0) (a .scratch .now) (z .pre .1 .0) line (up .ensures .1) (up .result) (up .ensures .0)) (c .wide .ensures) in
     omega arith
 
 write-cells-requires : tie.Need-write-cells-requires
 write-cells-requires c κs =
     let z = c .before .before .before .before .before .before .before .before .before .before .before .before .before .before .before .before in
     let a = z .args in
-    let h = total-fits (tableOf (a .rows) (a .events) (a .start) (a .cells .now) (a .marks .now)) (z .pre .0) (c .before .before .before .before .before .before .before .before .before .line-up .result) (lined-count (tableOf (a .rows) (a .events) (a .start) (a .cells .now) (a .marks .now)) (z .pre .0) (a .scratch .now) (z .pre .1 .0) (c .before .before .before .before .before .before .before .before .before .line-up .last .1 .1 .1 .1 .1 .0) (c .before .before .before .before .before .before .before .before .before .line-up .ensures .1) (c .before .before .before .before .before .before .before .before .before .line-up .result) (c .before .before .before .before .before .before .before .before .before .line-up .ensures .0)) (c .before .wide .ensures) in
+    let T = tableOf (a .rows) (a .events) (a .start) (a .cells .now) (a .marks .now) in
+    let up = c .before .before .before .before .before .before .before .before .before .line-up in
+    let line = up .last .1 .1 .1 .1 .1 .0 in
+    let h = total-fits T (z .pre .0) (up .result) (lined-count T (z .pre .0) (a .scratch .now) (z .pre .1 .0) line (up .ensures .1) (up .result) (up .ensures .0)) (c .before .before .wide .ensures) in
     (z .pre .0 .some-event, omega arith, omega (arith, z .pre .1 .1))
 
 write-marks-requires : tie.Need-write-marks-requires
 write-marks-requires c κs =
     let z = c .before .before .before .before .before .before .before .before .before .before .before .before .before .before .before .before .before .before .before .before .before in
     let a = z .args in
-    let h = lined-count (tableOf (a .rows) (a .events) (a .start) (a .cells .now) (a .marks .now)) (z .pre .0) (a .scratch .now) (z .pre .1 .0) (c .before .before .before .before .before .before .before .before .before .before .before .before .before .before .line-up .last .1 .1 .1 .1 .1 .0) (c .before .before .before .before .before .before .before .before .before .before .before .before .before .before .line-up .ensures .1) (c .before .before .before .before .before .before .before .before .before .before .before .before .before .before .line-up .result) (c .before .before .before .before .before .before .before .before .before .before .before .before .before .before .line-up .ensures .0) in
+    let T = tableOf (a .rows) (a .events) (a .start) (a .cells .now) (a .marks .now) in
+    let up = c .before .before .before .before .before .before .before .before .before .before .before .before .before .before .line-up in
+    let line = up .last .1 .1 .1 .1 .1 .0 in
+    let h = lined-count T (z .pre .0) (a .scratch .now) (z .pre .1 .0) line (up .ensures .1) (up .result) (up .ensures .0) in
     (omega (arith, z .pre .0 .rows-fit), omega (arith, z .pre .1 .2))
 
 returns : tie.Need-returns
 returns c =
     let z = c .before .before .before .before .before .before .before .before .before .before .before .before .before .before .before .before .before .before .before .before .before .before .before .before in
     let a = z .args in
-    let w = c .before .before .before .before .before .before .before .write-cells in
-    let m = c .before .before .write-marks in (
-      c .before .before .before .before .before .before .before .before .before .before .before .before .before .before .before .before .before .line-up .ensures .0 ∙ sym (left-rows (tableOf (a .rows) (a .events) (a .start) (a .cells .now) (a .marks .now)) (z .pre .0) (a .scratch .now) (z .pre .1 .0)),
-      all-numbered (tableOf (a .rows) (a .events) (a .start) (a .cells .now) (a .marks .now)) (z .pre .0) (a .scratch .now) (z .pre .1 .0) (c .before .before .before .before .before .before .before .before .before .before .before .before .before .before .before .before .before .line-up .last .1 .1 .1 .1 .1 .0) (c .before .before .before .before .before .before .before .before .before .before .before .before .before .before .before .before .before .line-up .ensures .1) (c .before .before .before .before .before .before .before .before .before .before .before .before .before .before .before .before .before .line-up .result) (c .before .before .before .before .before .before .before .before .before .before .before .before .before .before .before .before .before .line-up .ensures .0) (c .before .before .before .before .before .before .before .before .before .before .before .before .before .number-rows .last .1 .0) (c .before .before .before .before .before .before .before .before .before .before .before .before .before .number-rows .ensures),
-      w .ensures ∙ ap (over (a .newcells .now) 0) (left-cells (tableOf (a .rows) (a .events) (a .start) (a .cells .now) (a .marks .now)) (z .pre .0) (a .scratch .now) (z .pre .1 .0) (c .before .before .before .before .before .before .before .before .before .before .before .before .before .before .before .before .before .line-up .last .1 .1 .1 .1 .1 .0) (c .before .before .before .before .before .before .before .before .before .before .before .before .before .before .before .before .before .line-up .ensures .1) (c .before .before .before .before .before .before .before .before .before .before .before .before .before .before .before .before .before .line-up .result) (c .before .before .before .before .before .before .before .before .before .before .before .before .before .before .before .before .before .line-up .ensures .0) (c .before .before .before .before .before .before .before .before .before .before .before .before .before .number-rows .last .1 .0) (c .before .before .before .before .before .before .before .before .before .before .before .before .before .number-rows .ensures) (c .before .before .before .before .before .before .before .before .before .before .before .before .before .before .before .before .before .line-up .result * c .before .before .before .before .before .before .before .before .before .wide .result) (ap (λ (k : ℕ). c .before .before .before .before .before .before .before .before .before .before .before .before .before .before .before .before .before .line-up .result * k) (c .before .before .before .before .before .before .before .before .before .wide .ensures))),
-      m .ensures ∙ ap (over (a .newmarks .now) 0) (left-marks (tableOf (a .rows) (a .events) (a .start) (a .cells .now) (a .marks .now)) (z .pre .0) (a .scratch .now) (z .pre .1 .0) (c .before .before .before .before .before .before .before .before .before .before .before .before .before .before .before .before .before .line-up .last .1 .1 .1 .1 .1 .0) (c .before .before .before .before .before .before .before .before .before .before .before .before .before .before .before .before .before .line-up .ensures .1) (c .before .before .before .before .before .before .before .before .before .before .before .before .before .before .before .before .before .line-up .result) (c .before .before .before .before .before .before .before .before .before .before .before .before .before .before .before .before .before .line-up .ensures .0) (c .before .before .before .before .before .before .before .before .before .before .before .before .before .number-rows .last .1 .0) (c .before .before .before .before .before .before .before .before .before .before .before .before .before .number-rows .ensures)),
+    let T = tableOf (a .rows) (a .events) (a .start) (a .cells .now) (a .marks .now) in
+    let up = c .before .before .before .before .before .before .before .before .before .before .before .before .before .before .before .before .before .line-up in
+    let line = up .last .1 .1 .1 .1 .1 .0 in
+    let wide = c .before .before .before .before .before .before .before .before .before .before .wide in
+    let numbers = c .before .before .before .before .before .before .before .before .before .before .before .before .before .number-rows in (
+      up .ensures .0 ∙ sym (left-rows T (z .pre .0) (a .scratch .now) (z .pre .1 .0)),
+      all-numbered T (z .pre .0) (a .scratch .now) (z .pre .1 .0) line (up .ensures .1) (up .result) (up .ensures .0) (numbers .last .1 .0) (numbers .ensures),
+      c .before .before .before .before .before .before .before .write-cells .ensures ∙ ap (over (a .newcells .now) 0) (left-cells T (z .pre .0) (a .scratch .now) (z .pre .1 .0) line (up .ensures .1) (up .result) (up .ensures .0) (numbers .last .1 .0) (numbers .ensures) (up .result * wide .result) (ap (λ (k : ℕ). up .result * k) (wide .ensures))),
+      c .before .before .write-marks .ensures ∙ ap (over (a .newmarks .now) 0) (left-marks T (z .pre .0) (a .scratch .now) (z .pre .1 .0) line (up .ensures .1) (up .result) (up .ensures .0) (numbers .last .1 .0) (numbers .ensures)),
     )
 
 pub renumber-within-spec : {M : Type 1} → statement M
@@ -54,7 +69,7 @@ renumber-within-spec =
     (λ c κs. search needs)
     number-rows-requires
     (λ c κs. search needs)
-    mul-write-cells
+    mul-total
     write-cells-requires
     write-marks-requires
     (λ c. search needs)
