@@ -41,13 +41,13 @@ line rows cells marks = record { rows = rows; events = 1; start = 0; cells = cel
 abbrev line2 : (rows start : ℕ) (cells marks : List ℕ) → Table
 line2 rows start cells marks = record { rows = rows; events = 2; start = start; cells = cells; marks = marks }
 
-abbrev A : Table
+abbrev pub A : Table
 A = line 3 (1 ∷ 2 ∷ 2 ∷ []) (1 ∷ [])
 
 abbrev B : Table
 B = line2 3 0 (1 ∷ 2 ∷ 0 ∷ 0 ∷ 0 ∷ 0 ∷ []) (2 ∷ [])
 
-abbrev C : Table
+abbrev pub C : Table
 C = line 4 (1 ∷ 2 ∷ 3 ∷ 3 ∷ []) (2 ∷ [])
 
 abbrev D : Table
