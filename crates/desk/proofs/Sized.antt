@@ -12,18 +12,14 @@ use Rattle.tables.specs.Reduction as spec
 use Rattle.tables.specs.Reduction.{reduced, records}
 use Rattle.tables.proofs.Over.{over-inside}
 use Rattle.tables.proofs.Theorems.{unit-light, never-more, records-length, valid, same-events}
-use Rattle.rules.specs.Rules.{winch, tableChecks}
 use Rattle.rules.specs.declared.Verdict.{Verdict}
 use Rattle.rules.specs.declared.Verdict.the-variants.{Fine}
-use Rattle.rules.proofs.Judged.{judged-append}
-use Rattle.rules.proofs.Shape.{table-valid}
-use Rattle.scratch.specs.Scratch.{needed}
-use Rattle.scratch.proofs.Triangle.{triangle-le, triangle-square}
+use Rattle.scratch.proofs.Triangle.{needed-value, triangle-le, triangle-square}
 use Rattle.records.specs.declared.Record.{Record}
 use Rattle.reduction.specs.declared.Answer.{Answer}
 use Rattle.reduction.specs.declared.Answer.the-variants as answer
-use Rattle.reduction.specs.Reduce.{roomChecks, verdict, answerBy, leftBy, Promise}
-use Rattle.reduction.proofs.Room.{all-fits}
+use Rattle.reduction.specs.Reduce.{verdict, answerBy, leftBy, Promise}
+use Rattle.reduction.proofs.Fakes.{accepts}
 use Rattle.listing.specs.Text.{joined, decimal, text}
 use Rattle.reducer.specs.Recorded.{recordOf, recordsBy}
 use Rattle.desk.specs.Printed.{reductionText}
@@ -31,12 +27,8 @@ use Rattle.listing.specs.Listing.{targetWord, markWords, rowLine, recordLine, b
 
 -- The buffers are long enough.
 pub no-rule-broken : (T : Table) → Valid T → T .rows ≤ 128 → verdict T 4096 16 1024 8640 ≡ Fine
-unfolding verdict
 no-rule-broken T v few =
-    let room = roomChecks (T .rows) (T .events) 4096 16 1024 8640 in
-    let cells : T .rows * T .events ≤ 4096 = mul-le-mul few (v .events-fit) in
-    let scratch : needed (T .rows) ≤ 8640 = omega (arith, triangle-le (T .rows) 128 few, triangle-square 128) in
-    judged-append (tableChecks winch T) room ∙ rw (table-valid T (v .bytes) .1 v) (sym (all-fits (T .rows) (T .events) 4096 16 1024 8640 cells (omega arith) (omega arith) scratch))
+    accepts T v 4096 16 1024 8640 (mul-le-mul few (v .events-fit)) (omega arith) (omega arith) (omega (arith, needed-value (T .rows), triangle-le (T .rows) 128 few, triangle-square 128))
 
 -- ---- texts of equal parts are equal
 

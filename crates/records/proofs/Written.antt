@@ -12,7 +12,7 @@ use Rattle.records.specs.declared.Record.{Record}
 
 pub written-length : (xs : List Record) (s : List ℕ) (n i : ℕ) → length (written xs s n i) ≡ length xs
 written-length xs s n zero = refl
-written-length xs s n (suc i) = length-set (written xs s n i) i (recordAt s n i) ∙ written-length xs s n i
+written-length xs s n (suc i) = simp length-set (written-length xs s n i)
 
 -- One element more of a list that is written from the front.
 module _ (xs : List Record) (f : ℕ → Record) (i : ℕ) where

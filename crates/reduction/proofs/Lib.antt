@@ -2,3 +2,4 @@ pub mod Room
 pub mod Worked
 pub mod Outcome
 pub mod Promised
+pub mod Fakes

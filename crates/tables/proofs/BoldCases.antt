@@ -23,7 +23,7 @@ below-at c (suc n) b k h = elim (last-or-less k n h) [ inl e ↦ subst (λ (j : 
 
 -- From twice the rows on, an offset yields what none does.
 far : (c : Case) (k : ℕ) → 0 < c .given-table .rows → 2 * c .given-table .rows ≤ k → Holds c none → Holds c (offset k)
-far c k pos h n = (sym (reduced-none unit (c .given-table) k pos h) ∙ n .0, recorded (c .fates) (n .1))
+far c k pos h n = (sym (reduced-none unit (c .given-table) k pos h) ∙ n .0, recorded (c .fates) (n .1), n .2)
   where
     recorded : (r : Option (List Record)) → Recorded r (records unit none (c .given-table)) → Recorded r (records unit (offset k) (c .given-table))
     recorded (stated m) e = sym (records-none unit (c .given-table) k pos h) ∙ e

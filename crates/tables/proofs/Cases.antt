@@ -4,10 +4,10 @@ use mathlib.Core.List.{List, [], _∷_}
 use mathlib.Core.Option.{Option, some as stated, none as unstated}
 use Prim.Native.Nat.{ℕ, zero, suc, _*_, _<_}
 use native.Mathlib.Omega.{arith}
-use Rattle.automata.specs.Runs.{len, endless}
+use Rattle.automata.specs.Runs.{Len, len, endless}
 use Rattle.automata.specs.Nearness.{every, rounds, near}
 use Rattle.tables.specs.Lengths.{least, distance, lead, reached, depth}
-use Rattle.tables.specs.Table.{Table, Offset, offset, none, pack, digits, unit}
+use Rattle.tables.specs.Table.{Table, Offset, offset, none, machine, eventsOf, pack, digits, unit}
 use Rattle.tables.specs.Lists.{tabulate, filter, some, first, position, sift}
 use Rattle.tables.specs.Reduction.{Record, keptAs, foldedInto, unreached, similarBy, level, levels, order, similar, kept, fold, met, numbering, number, renumbered, fateOf, reduced, records}
 
@@ -16,21 +16,36 @@ pub data When : Type 0 where
   at : Offset → When
   always : When
 
+-- Two rows and their distance.
+pub record Apart : Type 0 where
+  pub row : ℕ
+  pub other : ℕ
+  pub by : Len
+
 pub record Case : Type 0 where
   pub given-table : Table
   pub when : When
   pub new-table : Table
   -- Where document 01 gives them.
   pub fates : Option (List Record)
+  pub distances : List Apart
 
 -- The records are those that are stated, if any are.
 abbrev pub Recorded : Option (List Record) → List Record → Type 0
 Recorded unstated l = Unit {0}
 Recorded (stated m) l = l ≡ m
 
+-- The distances are those that are stated.
+abbrev pub Measured : Table → List Apart → Type 0
+Measured T [] = Unit {0}
+Measured T (x ∷ l) = (distance (eventsOf unit T) (machine T) (x .row) (x .other) ≡ x .by) × Measured T l
+
 -- The case holds at the offset.
 abbrev pub Holds : Case → Offset → Type 0
-Holds c k = (reduced unit k (c .given-table) ≡ c .new-table) × Recorded (c .fates) (records unit k (c .given-table))
+Holds c k =
+    (reduced unit k (c .given-table) ≡ c .new-table)
+    × Recorded (c .fates) (records unit k (c .given-table))
+    × Measured (c .given-table) (c .distances)
 
 -- ---- the table
 
@@ -41,13 +56,13 @@ line rows cells marks = record { rows = rows; events = 1; start = 0; cells = cel
 abbrev line2 : (rows start : ℕ) (cells marks : List ℕ) → Table
 line2 rows start cells marks = record { rows = rows; events = 2; start = start; cells = cells; marks = marks }
 
-abbrev A : Table
+abbrev pub A : Table
 A = line 3 (1 ∷ 2 ∷ 2 ∷ []) (1 ∷ [])
 
 abbrev B : Table
 B = line2 3 0 (1 ∷ 2 ∷ 0 ∷ 0 ∷ 0 ∷ 0 ∷ []) (2 ∷ [])
 
-abbrev C : Table
+abbrev pub C : Table
 C = line 4 (1 ∷ 2 ∷ 3 ∷ 3 ∷ []) (2 ∷ [])
 
 abbrev D : Table
@@ -71,34 +86,44 @@ cases =
       when = at (offset 0);
       new-table = line 2 (1 ∷ 1 ∷ []) (1 ∷ []);
       fates = stated (record { depth = len 0; fate = keptAs 0 } ∷ record { depth = len 1; fate = foldedInto 2 } ∷ record { depth = endless; fate = keptAs 1 } ∷ []);
+      distances = [];
     }
-    ∷ record { given-table = A; when = at (offset 1); new-table = waiting; fates = unstated }
-    ∷ record { given-table = A; when = at none; new-table = waiting; fates = unstated }
+    ∷ record { given-table = A; when = at (offset 1); new-table = waiting; fates = unstated; distances = [] }
+    ∷ record { given-table = A; when = at none; new-table = waiting; fates = unstated; distances = [] }
     -- B
-    ∷ record { given-table = B; when = always; new-table = B; fates = unstated }
+    ∷ record {
+      given-table = B;
+      when = always;
+      new-table = B;
+      fates = stated (record { depth = endless; fate = keptAs 0 } ∷ record { depth = endless; fate = keptAs 1 } ∷ record { depth = endless; fate = keptAs 2 } ∷ []);
+      distances = record { row = 1; other = 2; by = len 1 } ∷ [];
+    }
     -- C1, C2
-    ∷ record { given-table = C; when = at (offset 1); new-table = line 3 (1 ∷ 2 ∷ 2 ∷ []) (2 ∷ []); fates = unstated }
-    ∷ record { given-table = C; when = at (offset 2); new-table = waiting; fates = unstated }
+    ∷ record { given-table = C; when = at (offset 1); new-table = line 3 (1 ∷ 2 ∷ 2 ∷ []) (2 ∷ []); fates = unstated; distances = [] }
+    ∷ record { given-table = C; when = at (offset 2); new-table = waiting; fates = unstated; distances = [] }
     -- D0, D1
     ∷ record {
       given-table = D;
       when = at (offset 0);
       new-table = line2 3 0 (1 ∷ 1 ∷ 2 ∷ 0 ∷ 1 ∷ 1 ∷ []) (4 ∷ []);
       fates = stated (record { depth = endless; fate = keptAs 1 } ∷ record { depth = endless; fate = keptAs 2 } ∷ record { depth = endless; fate = keptAs 0 } ∷ record { depth = len 0; fate = foldedInto 2 } ∷ []);
+      distances = [];
     }
     ∷ record {
       given-table = D;
       when = at (offset 1);
       new-table = line2 3 0 (1 ∷ 1 ∷ 0 ∷ 2 ∷ 1 ∷ 1 ∷ []) (1 ∷ []);
       fates = stated (record { depth = endless; fate = keptAs 1 } ∷ record { depth = endless; fate = keptAs 0 } ∷ record { depth = endless; fate = keptAs 2 } ∷ record { depth = len 0; fate = foldedInto 1 } ∷ []);
+      distances = [];
     }
     -- E, F
-    ∷ record { given-table = E; when = always; new-table = E; fates = unstated }
+    ∷ record { given-table = E; when = always; new-table = E; fates = unstated; distances = [] }
     ∷ record {
       given-table = F;
       when = always;
       new-table = waiting;
       fates = stated (record { depth = endless; fate = keptAs 0 } ∷ record { depth = len 0; fate = unreached } ∷ []);
+      distances = [];
     }
     ∷ []
 
@@ -126,12 +151,12 @@ pub computed : All (λ c. Computed c (c .when)) cases
 unfolding every least rounds near distance lead reached depth pack digits tabulate filter some first position sift similarBy level levels order similar kept fold met numbering number renumbered fateOf reduced records
 computed =
     -- A0, A1, An
-    (refl and refl) and (refl and tt) and (refl and tt)
+    (refl, refl, tt) and (refl, tt, tt) and (refl, tt, tt)
     -- B: none, then offsets 5 down to 0
-    and (omega arith, refl and tt, (refl and tt) and (refl and tt) and (refl and tt) and (refl and tt) and (refl and tt) and (refl and tt) and tt)
+    and (omega arith, (refl, refl, refl and tt), (refl, refl, refl and tt) and (refl, refl, refl and tt) and (refl, refl, refl and tt) and (refl, refl, refl and tt) and (refl, refl, refl and tt) and (refl, refl, refl and tt) and tt)
     -- C1, C2, D0, D1
-    and (refl and tt) and (refl and tt) and (refl and refl) and (refl and refl)
+    and (refl, tt, tt) and (refl, tt, tt) and (refl, refl, tt) and (refl, refl, tt)
     -- E, F
-    and (omega arith, refl and tt, (refl and tt) and (refl and tt) and tt)
-    and (omega arith, refl and refl, (refl and refl) and (refl and refl) and (refl and refl) and (refl and refl) and tt)
+    and (omega arith, (refl, tt, tt), (refl, tt, tt) and (refl, tt, tt) and tt)
+    and (omega arith, (refl, refl, tt), (refl, refl, tt) and (refl, refl, tt) and (refl, refl, tt) and (refl, refl, tt) and tt)
     and tt

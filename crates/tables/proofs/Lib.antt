@@ -10,4 +10,5 @@ pub mod Reduced
 pub mod NoOffset
 pub mod Canonical
 pub mod Theorems
+pub mod Fakes
 pub mod BoldCases

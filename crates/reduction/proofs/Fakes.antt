@@ -1,0 +1,32 @@
+-- "'Buffer too short' said of an ample buffer, and refusing every table": both break demand 1.
+use mathlib.Core.Path.{_≡_, sym, ap, _∙_}
+use Prim.Native.Nat.{ℕ, _*_, _≤_}
+use native.Mathlib.Omega.{arith}
+use Rattle.tables.specs.Table.{Table, Valid, markBytes}
+use Rattle.rules.specs.Rules.{winch, tableChecks}
+use Rattle.rules.specs.declared.Verdict.{Verdict}
+use Rattle.rules.specs.declared.Verdict.the-variants.{Fine}
+use Rattle.rules.proofs.Judged.{judged-append}
+use Rattle.rules.proofs.Shape.{table-valid}
+use Rattle.scratch.proofs.Triangle.{needed-value}
+use Rattle.reduction.specs.declared.Answer.the-variants as answer
+use Rattle.reduction.specs.Reduce.{scratchCells, roomChecks, verdict, answerBy}
+use Rattle.reduction.proofs.Room.{all-fits}
+
+-- A valid table, and buffers that have the named lengths or more.
+module _ (T : Table) (v : Valid T) (cells marks records scratch : ℕ) (c : T .rows * T .events ≤ cells) (m : markBytes (T .rows) ≤ marks) (r : T .rows ≤ records) (s : scratchCells (T .rows) ≤ scratch) where
+  -- No rule is broken.
+  pub accepts : verdict T cells marks records scratch ≡ Fine
+  unfolding verdict
+  accepts =
+      judged-append (tableChecks winch T) (roomChecks (T .rows) (T .events) cells marks records scratch)
+      ∙ rw (table-valid T (v .bytes) .1 v) (sym (all-fits (T .rows) (T .events) cells marks records scratch c m r (omega (arith, needed-value (T .rows)))))
+
+  module _ (rows : ℕ) where
+    -- So demand 1 asks for the new row count,
+    pub reduces : answerBy (verdict T cells marks records scratch) rows ≡ answer.Reduced rows
+    reduces = ap (λ (u : Verdict). answerBy u rows) accepts
+
+    -- and no refusal keeps it, of rule 7 or any other.
+    pub refusing : (number place : ℕ) → ¬ (answer.Refused number place ≡ answerBy (verdict T cells marks records scratch) rows)
+    refusing number place e = let z : _≡_ {A = ℕ} 0 1 = cc reduces in omega arith
