@@ -1,3 +1,4 @@
+pub mod Example
 pub mod Sized
 pub mod Taken
 pub mod Long
