@@ -8,7 +8,6 @@ use lib.Arith.{digits-lt}
 use lib.ListN.{length, getD, drop, List·getD-append, length-map}
 use Rattle.tables.specs.Lists.{over}
 use Rattle.tables.specs.Table.{Table, Offset, Valid, markOf, unit}
-use Rattle.tables.specs.Reduction as spec
 use Rattle.tables.specs.Reduction.{reduced, records}
 use Rattle.tables.proofs.Over.{over-inside}
 use Rattle.tables.proofs.Theorems.{unit-light, never-more, records-length, valid, same-events}

@@ -2,7 +2,8 @@
 use mathlib.Core.Path.{_≡_, refl, sym, ap, _∙_}
 use mathlib.Core.List.{List, [], _∷_, _++_}
 use mathlib.Core.Logic.{inl, inr}
-use Prim.Native.Nat.{ℕ, zero, suc, _+_, _-_, _*_, _/_, _%_, _≤_, _<_}
+use Prim.Native.Nat.{ℕ, zero, suc, _+_, _-_, _*_, _/_, _%_, _^_, _≤_, _<_}
+use native.Mathlib.Nat.{pow-succ'}
 use native.Mathlib.Omega.{arith}
 use native.Mathlib.Decide.{decLt}
 use borrow.Author.Tests.{lt-ltb, le-ltb}
@@ -54,6 +55,17 @@ decimal-one n h = one-digit n n h
 pub decimal-more : (n : ℕ) → 10 ≤ n → decimal n ≡ decimal (n / 10) ++ ((48 + n % 10) ∷ [])
 unfolding decimal
 decimal-more n h = more-digits n n h ∙ ap (λ (k : List ℕ). k ++ ((48 + n % 10) ∷ [])) (enough n (suc (n / 10)) (n / 10) (omega arith) (omega arith))
+
+-- ---- how many digits there are
+
+-- A number below 10 ^ d has at most d of them, where d is not 0.
+pub decimal-length : (d n : ℕ) → n < 10 ^ suc d → length (decimal n) ≤ suc d
+decimal-length zero n h = rw (decimal-one n (omega arith)) (omega arith)
+decimal-length (suc d) n h = pick (decLt n 10) (decimal-length d (n / 10))
+  where
+    pick : Dec (n < 10) → (n / 10 < 10 ^ suc d → length (decimal (n / 10)) ≤ suc d) → length (decimal n) ≤ suc (suc d)
+    pick (yes g) ih = rw (decimal-one n g) (omega arith)
+    pick (no g) ih = rw (decimal-more n (omega arith)) (omega (arith, length-append (decimal (n / 10)) ((48 + n % 10) ∷ []), ih (omega (arith, pow-succ' 10 (suc d)))))
 
 -- ---- what the digits are
 

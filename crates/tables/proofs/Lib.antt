@@ -11,3 +11,4 @@ pub mod NoOffset
 pub mod Canonical
 pub mod Theorems
 pub mod BoldCases
+pub mod Bounds

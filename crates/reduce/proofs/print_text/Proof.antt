@@ -13,23 +13,14 @@ slice-aggregate-write-text c = search needs
 write-text-requires : tie.Need-write-text-requires
 write-text-requires c κs = search needs
 
-slice-aggregate-write-all : tie.Need-slice-aggregate-write-all
-slice-aggregate-write-all c = search needs
-
-write-all-requires : tie.Need-write-all-requires
-write-all-requires c κs = search needs
-
-returns : tie.Need-returns
-returns c = search needs
-
 array-share-prefix-out : tie.Need-array-share-prefix-out
 array-share-prefix-out c = search needs
 
-slice-aggregate-write-all-2 : tie.Need-slice-aggregate-write-all-2
-slice-aggregate-write-all-2 c = sym (length-take-le _ (c .before .before .before .write-text .last .1 .0) (array-share-prefix-out (c .before)))
+slice-aggregate-write-all : tie.Need-slice-aggregate-write-all
+slice-aggregate-write-all c = sym (length-take-le _ (c .before .before .write-text .last .1 .0) (array-share-prefix-out (c .before)))
 
-write-all-requires-2 : tie.Need-write-all-requires-2
-write-all-requires-2 c κs = search needs
+write-all-requires : tie.Need-write-all-requires
+write-all-requires c κs = search needs
 
 slice-aggregate-fail : tie.Need-slice-aggregate-fail
 slice-aggregate-fail c = search needs
@@ -37,11 +28,11 @@ slice-aggregate-fail c = search needs
 fail-requires : tie.Need-fail-requires
 fail-requires c κs = search needs
 
+returns : tie.Need-returns
+returns c = search needs
+
 returns-2 : tie.Need-returns-2
 returns-2 c = search needs
-
-returns-3 : tie.Need-returns-3
-returns-3 c = search needs
 
 pub print-text-spec : {M : Type 1} → statement M
 print-text-spec =
@@ -50,13 +41,10 @@ print-text-spec =
     large-buffer-requires
     slice-aggregate-write-text
     write-text-requires
+    array-share-prefix-out
     slice-aggregate-write-all
     write-all-requires
-    returns
-    array-share-prefix-out
-    slice-aggregate-write-all-2
-    write-all-requires-2
     slice-aggregate-fail
     fail-requires
-    returns-2
-    returns-3)
+    returns
+    returns-2)
