@@ -1,21 +1,9 @@
-//! The product, called through its one C function. With the feature `stub`
-//! this project's own reading stands in its place, and every test says so.
+//! The product, called through its one C function.
 
 /// Something that prints for an input what `reduce` prints.
 pub type Reduce = fn(&[u8]) -> Vec<u8>;
 
-/// What the product is, for the lines the tests print.
-#[cfg(not(feature = "stub"))]
-pub const NAME: &str = "product";
-#[cfg(feature = "stub")]
-pub const NAME: &str = "STUB, NOT THE PRODUCT";
-
-#[cfg(feature = "stub")]
-pub fn reduce_text(input: &[u8]) -> Vec<u8> {
-    crate::rules::text_for(input).into_bytes()
-}
-
-#[cfg(not(feature = "stub"))]
+/// The product's text for an input.
 pub fn reduce_text(input: &[u8]) -> Vec<u8> {
     use std::sync::Mutex;
 

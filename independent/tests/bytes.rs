@@ -6,7 +6,7 @@
 
 use independent::judge::hexadecimal;
 use independent::parallel::spread;
-use independent::product::{reduce_text, NAME};
+use independent::product::reduce_text;
 use independent::random::Random;
 use independent::rules::text_for;
 use independent::shapes::{table, Shape, SHAPES};
@@ -52,7 +52,7 @@ impl Answers {
                 number => format!("refused {number}: {count}"),
             })
             .collect();
-        println!("{NAME}: {what}: {sum} inputs ({})", parts.join(", "));
+        println!("product: {what}: {sum} inputs ({})", parts.join(", "));
     }
 }
 

@@ -2,7 +2,7 @@
 //! of "Refused, and on what" that `reduce` can show. The expected texts are
 //! written here by hand from the document, not made by rules.rs.
 
-use independent::product::{reduce_text, NAME};
+use independent::product::reduce_text;
 use independent::rules::{text_for, Length, Study};
 use independent::table::Table;
 
@@ -14,7 +14,7 @@ fn bytes(words: &str) -> Vec<u8> {
 /// The product's text is the expected one; rules.rs's too.
 fn prints(input: &[u8], expected: &str) {
     let printed = reduce_text(input);
-    assert_eq!(String::from_utf8_lossy(&printed), expected, "{NAME}, input {input:x?}");
+    assert_eq!(String::from_utf8_lossy(&printed), expected, "product, input {input:x?}");
     assert_eq!(text_for(input), expected, "own reading, input {input:x?}");
 }
 
@@ -448,5 +448,5 @@ fn first_rule_broken() {
         assert_eq!(printed, format!("refused {answer}\n"), "{what}");
         prints(&input, &format!("refused {answer}\n"));
     }
-    println!("{NAME}: {} images with two faults", list.len());
+    println!("product: {} images with two faults", list.len());
 }

@@ -5,7 +5,7 @@
 use independent::cutter::Cutter;
 use independent::judge::{all_offsets, judge, read_listing, stop};
 use independent::parallel::{spread, Counter};
-use independent::product::{reduce_text, NAME};
+use independent::product::reduce_text;
 use independent::random::Random;
 use independent::rules::{Fate, Length, Study};
 use independent::shapes::{table, SHAPES};
@@ -56,7 +56,7 @@ fn four_and_five_rows_against_the_cutter() {
             }
         });
         println!(
-            "{NAME}: {} tables of {rows} rows and {events} events at {} offsets, each against {} \
+            "product: {} tables of {rows} rows and {events} events at {} offsets, each against {} \
              smaller tables; {} folds into unequal rows",
             tried.value(),
             offsets.len(),
@@ -128,14 +128,14 @@ fn up_to_128_rows_and_32_events() {
             }
         });
         println!(
-            "{NAME}: {} tables, {name} ({low} to {high} rows, up to {most} events) at {wanted} \
+            "product: {} tables, {name} ({low} to {high} rows, up to {most} events) at {wanted} \
              offsets each; {} folds into unequal rows",
             tried.value(),
             unequal.value()
         );
         sum += tried.value();
     }
-    println!("{NAME}: {sum} larger tables in all");
+    println!("product: {sum} larger tables in all");
 }
 
 /// "An offset of twice the given rows or more yields the same table as none":
@@ -158,5 +158,5 @@ fn twice_the_rows_is_as_none() {
             tried.add(1);
         }
     });
-    println!("{NAME}: {} tables at and above twice the rows", tried.value());
+    println!("product: {} tables at and above twice the rows", tried.value());
 }

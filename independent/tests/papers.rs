@@ -13,7 +13,7 @@
 use independent::cutter::{agree, agree_large, count_all, table_number, Cutter};
 use independent::judge::{all_offsets, judge, stop};
 use independent::parallel::{spread, Counter};
-use independent::product::{reduce_text, NAME};
+use independent::product::reduce_text;
 use independent::random::Random;
 use independent::rules::{Length, Study};
 use independent::shapes::{renumbered, table, SHAPES};
@@ -88,7 +88,7 @@ fn theorem_3_13_of_003() {
             }
         }
     }
-    println!("{NAME}: theorem 3.13: {} pairs m, n", list.len());
+    println!("product: theorem 3.13: {} pairs m, n", list.len());
 }
 
 /// Paper 003, theorem 3.12 and its proof: with one event the hyper-minimized
@@ -126,7 +126,7 @@ fn theorem_3_12_of_003() {
             tried.add(1);
         }
     });
-    println!("{NAME}: theorem 3.12: {} tables with one event", tried.value());
+    println!("product: theorem 3.12: {} tables with one event", tried.value());
 }
 
 /// Paper 003, remark 3.10, the first two automata: {b^k : k is even} and
@@ -142,7 +142,7 @@ fn remark_3_10_of_003_unary() {
         }
     }
     assert!(!agree(&even, &odd, None));
-    println!("{NAME}: remark 3.10: 2 unary automata");
+    println!("product: remark 3.10: 2 unary automata");
 }
 
 /// Paper 003, remark 3.10, the binary automata: {a b^k : k is even} and
@@ -167,7 +167,7 @@ fn remark_3_10_of_003_binary() {
         assert!(cutter.least(given, &offsets).iter().all(|&least| least == 4));
     }
     assert!(!agree(&even, &odd, None));
-    println!("{NAME}: remark 3.10: 2 binary automata");
+    println!("product: remark 3.10: 2 binary automata");
 }
 
 /// Paper 003, figure 4 (its caption only): "two hyper-minimized almost-equivalent
@@ -238,7 +238,7 @@ fn finite_and_cofinite_languages_of_003() {
             tried.add(1);
         }
     });
-    println!("{NAME}: finite and co-finite languages: {}", tried.value());
+    println!("product: finite and co-finite languages: {}", tried.value());
 }
 
 /// The rows of a minimized table (paper 003, fact 3.5): reached rows, split by
@@ -385,7 +385,7 @@ fn section_4_and_corollary_3_11_of_003() {
         }
     });
     println!(
-        "{NAME}: section 4: {} tables, {} of them with the start on a loop",
+        "product: section 4: {} tables, {} of them with the start on a loop",
         tried.value(),
         on_loop.value()
     );
@@ -411,7 +411,7 @@ fn sizes_fall_with_the_offset() {
             tried.add(1);
         }
     });
-    println!("{NAME}: sizes fall with the offset: {} tables", tried.value());
+    println!("product: sizes fall with the offset: {} tables", tried.value());
 }
 
 /// Paper 004, section 2: the distance is an ultrametric, and it satisfies the
@@ -656,5 +656,5 @@ fn definitions_9_and_10_of_004() {
             assert_eq!(rows_at(&other, Some(5)), 14 + graph.vertices, "{name}");
         }
     }
-    println!("{NAME}: definitions 9 and 10: {} graphs", list.len());
+    println!("product: definitions 9 and 10: {} graphs", list.len());
 }

@@ -1,5 +1,4 @@
-//! The self-test: this project's own parts against each other. It runs without
-//! the product (`--features stub`), and says the same with it.
+//! The self-test: this project's own parts against each other, without the product.
 
 use independent::cutter::{
     agree, agree_finally, agree_from, agree_large, count_all, forms, least_plain, table_number,

@@ -11,7 +11,7 @@
 use independent::cutter::{count_all, forms, table_number, Cutter};
 use independent::judge::{all_offsets, judge, stop};
 use independent::parallel::{spread, Counter};
-use independent::product::{reduce_text, NAME};
+use independent::product::reduce_text;
 use independent::random::Random;
 use independent::rules::Study;
 use independent::shapes::renumbered;
@@ -64,7 +64,7 @@ fn all_tables_up_to_three_rows_and_two_events() {
                 }
             });
             println!(
-                "{NAME}: all {} tables of {rows} rows and {events} events at {} offsets, \
+                "product: all {} tables of {rows} rows and {events} events at {} offsets, \
                  each against {} smaller tables",
                 tried.value(),
                 offsets.len(),
@@ -73,7 +73,7 @@ fn all_tables_up_to_three_rows_and_two_events() {
             sum += tried.value();
         }
     }
-    println!("{NAME}: {sum} tables in all");
+    println!("product: {sum} tables in all");
 }
 
 /// More than asked: all tables of 4 rows and 1 event; and of 4 rows and 2
@@ -91,7 +91,7 @@ fn all_tables_of_four_rows() {
             tried.add(1);
         }
     });
-    println!("{NAME}: all {} tables of 4 rows and 1 event", tried.value());
+    println!("product: all {} tables of 4 rows and 1 event", tried.value());
 
     let cutter = Cutter::new(4, 2);
     let list = forms(4, 2);
@@ -105,5 +105,5 @@ fn all_tables_of_four_rows() {
             tried.add(1);
         }
     });
-    println!("{NAME}: {} tables of 4 rows and 2 events, all rows reached", tried.value());
+    println!("product: {} tables of 4 rows and 2 events, all rows reached", tried.value());
 }

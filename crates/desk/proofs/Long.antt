@@ -15,7 +15,7 @@ use Rattle.rules.specs.declared.Verdict.{Verdict}
 use Rattle.rules.specs.declared.Verdict.the-variants.{Fine, Refused}
 use Rattle.rules.proofs.Checks.{unbroken, passed}
 use Rattle.images.specs.Image.{numberAt, cellsAt, targetsAt, startAt}
-use Rattle.image_reader.specs.Read.{cutRule, targetsRule, readChecks, imageRead, answered}
+use Rattle.image_reader.specs.Read.{atMost, cutRule, targetsRule, readChecks, imageRead, answered}
 use Rattle.image_reader.specs.declared.Read.the-variants as read
 use Rattle.desk.specs.Printed.{offsetIn, textOf, imageText, printed}
 use Rattle.desk.proofs.Few.{few-targets}
@@ -92,7 +92,7 @@ module _ (b rest : List ℕ) (long : 8217 ≤ length b) where
       ∷ lastChecks d n
 
   abbrev allChecks : List ℕ → List Verdict
-  allChecks d = cutRule d 2 ∷ rowsRule winch rows ∷ rule 12 (ltb 128 rows) 0 ∷ midChecks d (numberAt d (targetsAt rows))
+  allChecks d = cutRule d 2 ∷ rowsRule winch rows ∷ atMost 128 rows ∷ midChecks d (numberAt d (targetsAt rows))
 
   last-same : (few : rows ≤ 128) → count few ≤ 4096 → judged (lastChecks c (count few)) ≡ judged (lastChecks b (count few))
   last-same few small =
@@ -117,7 +117,7 @@ module _ (b rest : List ℕ) (long : 8217 ≤ length b) where
   all-same =
       first-same (cut-same 2 (omega arith)) (λ e₀.
       first-same {u = rowsRule winch rows} refl (λ e₁.
-      first-same {u = rule 12 (ltb 128 rows) 0} refl (λ e₂.
+      first-same {u = atMost 128 rows} refl (λ e₂.
       let few : rows ≤ 128 = ltb-false 128 rows (unbroken 12 (ltb 128 rows) 0 e₂) in
       ap (λ (n : ℕ). judged (midChecks c n)) (count-same few) ∙ mid-same few)))
 
@@ -138,13 +138,13 @@ module _ (b rest : List ℕ) (long : 8217 ≤ length b) where
   rows-same = number-same 0 (omega arith)
 
   -- It is refused, and by the same number and place with more bytes or without.
-  long-refused : (imageRead winch 128 b ≡ read.Refused (refusal .0) (refusal .1)) × (imageRead winch 128 c ≡ read.Refused (refusal .0) (refusal .1))
+  long-refused : (imageRead winch (atMost 128) b ≡ read.Refused (refusal .0) (refusal .1)) × (imageRead winch (atMost 128) c ≡ read.Refused (refusal .0) (refusal .1))
   unfolding imageRead
   long-refused = (
     ap (λ (j : Verdict). answered j (read.Table rows (numberAt b (targetsAt rows) / rows) (numberAt b (startAt rows (numberAt b (targetsAt rows)) + 2)))) (refusal .2),
     ap (λ (r : ℕ).
         let n = numberAt c (targetsAt r) in
-        answered (judged (readChecks winch 128 c r n (numberAt c (startAt r n)) (numberAt c (startAt r n + 2)))) (read.Table r (n / r) (numberAt c (startAt r n + 2)))) rows-same
+        answered (judged (readChecks winch (atMost 128) c r n (numberAt c (startAt r n)) (numberAt c (startAt r n + 2)))) (read.Table r (n / r) (numberAt c (startAt r n + 2)))) rows-same
         ∙ ap (λ (j : Verdict). answered j (read.Table rows (numberAt c (targetsAt rows) / rows) (numberAt c (startAt rows (numberAt c (targetsAt rows)) + 2)))) (all-same ∙ refusal .2),
   )
 
@@ -158,4 +158,4 @@ long-input input rest long =
     let k = offsetIn (input ++ rest) in
     let r = long-refused (drop 2 input) rest size in
     rw (le-ltb (length (input ++ rest)) 2 two, le-ltb (length input) 2 (omega arith))
-    (ap (λ (b : List ℕ). textOf k b (imageRead winch 128 b)) image ∙ ap (textOf k (drop 2 input ++ rest)) (r .1) ∙ sym (ap (textOf (offsetIn input) (drop 2 input)) (r .0)))
+    (ap (λ (b : List ℕ). textOf k b (imageRead winch (atMost 128) b)) image ∙ ap (textOf k (drop 2 input ++ rest)) (r .1) ∙ sym (ap (textOf (offsetIn input) (drop 2 input)) (r .0)))

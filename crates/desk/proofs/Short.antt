@@ -22,7 +22,7 @@ use Rattle.rules.specs.declared.Verdict.the-variants.{Fine, Refused}
 use Rattle.rules.proofs.Checks.{unbroken, passed, all-inside}
 use Rattle.marks.specs.Marks.{spareSet}
 use Rattle.images.specs.Image.{numberAt, targetsAt, startAt, cellsAt, tableIn}
-use Rattle.image_reader.specs.Read.{cutRule, targetsRule, readChecks, imageRead, answered}
+use Rattle.image_reader.specs.Read.{cutRule, targetsRule, atMost, readChecks, imageRead, answered}
 use Rattle.image_reader.specs.declared.Read.the-variants as read
 use Rattle.records.specs.declared.Record.{Record}
 use Rattle.reducer.specs.Recorded.{depthOf, fateOf, recordOf}
@@ -54,7 +54,7 @@ little number t h = little-rule number t 0 h (λ e. omega arith)
 
 module _ (b : List ℕ) (rows count one start : ℕ) where
   abbrev checks : List Verdict
-  checks = readChecks winch 128 b rows count one start
+  checks = readChecks winch (atMost 128) b rows count one start
 
   cut : (end : ℕ) → end ≤ 10000 → Little (cutRule b end)
   cut end h = little-rule 8 (ltb (length b) end) (length b) (omega arith) (λ t. omega (arith, ltb-true (length b) end t))

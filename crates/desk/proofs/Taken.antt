@@ -4,7 +4,8 @@ use mathlib.Core.List.{List}
 use Prim.Native.Nat.{ℕ, _+_, _-_, _*_, _≤_, _<_}
 use native.Mathlib.Nat.{mul-le-mul}
 use native.Mathlib.Omega.{arith}
-use borrow.Author.Tests.{lt-ltb, le-ltb}
+use borrow.Author.Tests.{lt-ltb, le-ltb, ltb-false}
+use lib.Dec.{ltb}
 use lib.ListN.{length, take, drop, length-drop}
 use lib.Seq.{take-all}
 use Rattle.tables.specs.Lists.{over}
@@ -12,9 +13,10 @@ use Rattle.tables.specs.Table.{Table, Offset, Valid, markBytes}
 use Rattle.tables.proofs.Over.{over-length, take-over}
 use Rattle.rules.specs.Rules.{winch, tableOf}
 use Rattle.rules.specs.declared.Limits.{Limits}
+use Rattle.rules.proofs.Checks.{unbroken}
 use Rattle.images.specs.Image.{marksOf, cellsOf, tableIn}
 use Rattle.images.proofs.Numbers.{Bytes}
-use Rattle.image_reader.specs.Read.{imageRead, roomed, readBy, cellsIn, marksIn}
+use Rattle.image_reader.specs.Read.{atMost, imageRead, roomed, readBy, cellsIn, marksIn}
 use Rattle.image_reader.specs.declared.Read.{Read}
 use Rattle.image_reader.specs.declared.Read.the-variants as read
 use Rattle.image_reader.proofs.RoundTrip.{read-valid}
@@ -23,18 +25,21 @@ use Rattle.desk.specs.Printed.{offsetIn, reductionText, textOf, imageTex
 
 -- What is read is what the image says: there is room for 4,096 cells and 16 mark bytes.
 module _ (b : List ℕ) (bytes : Bytes b) where
-  room-enough : (r : Read) → imageRead winch 128 b ≡ r → roomed r 4096 16 ≡ r
+  few-valid : (rows events start : ℕ) → imageRead winch (atMost 128) b ≡ read.Table rows events start → Valid (tableIn b rows events start) × (rows ≤ 128)
+  few-valid rows events start e = let v = read-valid (atMost 128) b bytes rows events start e in (v .0, ltb-false 128 rows (unbroken 12 (ltb 128 rows) 0 (v .1)))
+
+  room-enough : (r : Read) → imageRead winch (atMost 128) b ≡ r → roomed r 4096 16 ≡ r
   room-enough (read.Refused number place) e = refl
   room-enough (read.Table rows events start) e =
-      let v = read-valid 128 b bytes rows events start e in
+      let v = few-valid rows events start e in
       let cells : rows * events ≤ 4096 = mul-le-mul (v .1) (v .0 .events-fit) in
       rw (le-ltb 4096 (rows * events) cells, le-ltb 16 (markBytes rows) (omega arith))
 
-  module _ (L : Limits) (l : L ≡ winch) (cells marks : List ℕ) (hc : length cells ≡ 4096) (hm : length marks ≡ 16) {r : Read} (hr : r ≡ readBy L 128 b (length cells) (length marks)) where
-    pub says : imageRead winch 128 b ≡ r
+  module _ (L : Limits) (l : L ≡ winch) (cells marks : List ℕ) (hc : length cells ≡ 4096) (hm : length marks ≡ 16) {r : Read} (hr : r ≡ readBy L (atMost 128) b (length cells) (length marks)) where
+    pub says : imageRead winch (atMost 128) b ≡ r
     unfolding readBy
-    says = sym (hr ∙ ap (λ (K : Limits). roomed (imageRead K 128 b) (length cells) (length marks)) l ∙ ap (λ (n : ℕ). roomed (imageRead winch 128 b) n (length marks)) hc
-        ∙ ap (roomed (imageRead winch 128 b) 4096) hm ∙ room-enough (imageRead winch 128 b) refl)
+    says = sym (hr ∙ ap (λ (K : Limits). roomed (imageRead K (atMost 128) b) (length cells) (length marks)) l ∙ ap (λ (n : ℕ). roomed (imageRead winch (atMost 128) b) n (length marks)) hc
+        ∙ ap (roomed (imageRead winch (atMost 128) b) 4096) hm ∙ room-enough (imageRead winch (atMost 128) b) refl)
 
     -- A refusal.
     pub refused-text : (k : Offset) (number place : ℕ) → r ≡ read.Refused number place → refusalLine number place ≡ imageText k b
@@ -44,7 +49,7 @@ module _ (b : List ℕ) (bytes : Bytes b) where
     -- A table.
     module _ (rows events start : ℕ) (e : r ≡ read.Table rows events start) where
       pub taken-valid : Valid (tableIn b rows events start) × (rows ≤ 128)
-      taken-valid = read-valid 128 b bytes rows events start (says ∙ e)
+      taken-valid = few-valid rows events start (says ∙ e)
 
       pub taken-text : (k : Offset) → reductionText k (tableIn b rows events start) ≡ imageText k b
       unfolding imageText

@@ -8,7 +8,7 @@ use Rattle.tables.specs.Table.{Table, Offset, offset, none, unit}
 use Rattle.tables.specs.Reduction.{reduced, records}
 use Rattle.rules.specs.Rules.{winch}
 use Rattle.images.specs.Image.{numberAt, tableIn}
-use Rattle.image_reader.specs.Read.{imageRead}
+use Rattle.image_reader.specs.Read.{atMost, imageRead}
 use Rattle.image_reader.specs.declared.Read.{Read}
 use Rattle.image_reader.specs.declared.Read.the-variants as read
 use Rattle.reducer.specs.Recorded.{recordOf}
@@ -30,7 +30,7 @@ textOf k image (read.Table rows events start) = reductionText k (tableIn image r
 textOf k image (read.Refused number place) = refusalLine number place
 
 unfoldable pub imageText : Offset → List ℕ → List ℕ
-imageText k image = textOf k image (imageRead winch 128 image)
+imageText k image = textOf k image (imageRead winch (atMost 128) image)
 
 -- "Fewer than two bytes give 8 with place 0."
 unfoldable pub printed : List ℕ → List ℕ

@@ -86,7 +86,7 @@ fn write_image_text(offset: Offset, image: &[u8], out: &mut [u8]) -> usize
 {
     let mut cells = [0u16; 4096];
     let mut marks = [0u8; 16];
-    match image_reader::read_image(rules::winch(), 128, image, &mut cells, &mut marks) {
+    match image_reader::read_within(rules::winch(), 128, image, &mut cells, &mut marks) {
         Read::Refused(number, place) => listing::write_refusal(number, place, out),
         Read::Table(rows, events, start) => {
             let count = rows * events;

@@ -5,13 +5,13 @@ use mathlib.Core.Bool.{Bool, cond}
 use mathlib.Core.List.{List, [], _∷_, _++_}
 use Prim.Native.Nat.{ℕ, zero, suc, _+_, _≤_, _<_}
 use lib.Dec.{eqb}
-use lib.ListN.{length, getD, take, drop}
+use lib.ListN.{length, getD}
 use Rattle.automata.specs.Runs.{Events, Machine, Len, len, endless}
 use Rattle.tables.specs.Lengths.{oneLess}
 use Rattle.tables.specs.Lists.{tabulate, filter, some, first, sift, over}
 use Rattle.tables.specs.Table.{Offset}
 use Rattle.tables.specs.Reduction.{similarBy, order, kept, fold}
-use Rattle.scratch.specs.Scratch.{leadAt, queued, pairAt, leadsAt, queueAt, foldsAt, needed}
+use Rattle.scratch.specs.Scratch.{leadAt, queued, pairAt, queueAt, foldsAt, needed}
 use Rattle.folding.specs.Holds.{Holds}
 
 -- A cell as a length.

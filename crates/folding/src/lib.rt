@@ -18,8 +18,9 @@ pub fn fold_rows(
     marks: &[u8],
     scratch: &mut [u16],
 ) -> bool
-    ensures { λ r. ⌜ (r ≡ workable (tableOf rows events start (now (cells .entry)) (now (marks .entry))) (length (now (scratch .entry))))
-        × (now (scratch .exit) ≡ foldedIn mask (offsetOf offset) (tableOf rows events start (now (cells .entry)) (now (marks .entry))) (now (scratch .entry))) ⌝ }
+    ensures { λ r. ⌜ (let T = tableOf rows events start (now (cells .entry)) (now (marks .entry)) in let s = now (scratch .entry) in
+        (r ≡ workable T (length s))
+        × (now (scratch .exit) ≡ foldedIn mask (offsetOf offset) T s)) ⌝ }
 {
     if !distances::distances(mask, rows, events, start, cells, marks, scratch) {
         return false;

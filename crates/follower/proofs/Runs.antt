@@ -75,7 +75,7 @@ module _ (T : Table) (v : Valid T) where
 
   -- It answers the mark that the table shows after the run.
   pub answers : (k : Offset) (w : List ℕ) → Run (eventsOf unit T) w
-      → shown T k (follow T w .row) (follow T w .count) ≡ show.Mark (eqb (shows (machine T) w) 1) (settled k (min 65535 (length w)))
+      → shown k T (follow T w .row) (follow T w .count) ≡ show.Mark (eqb (shows (machine T) w) 1) (settled k (min 65535 (length w)))
   unfolding shown
   answers k w hw =
       rw (follows w hw, judged-append (shapeChecks winch T) (rowRule (T .rows) (after (machine T) (T .start) w) ∷ []), shape, lt-leb _ _ (after-in sound w (T .start) hw (v .start-in)))

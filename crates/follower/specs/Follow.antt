@@ -64,9 +64,9 @@ settled (offset k) count = leb k count
 settled none count = false
 
 -- Answering checks 1 to 4, of the start and then of the follower's row; it gives the row's mark and whether it is settled.
-abbrev pub shownBy : Verdict → Table → Offset → ℕ → ℕ → Shown
-shownBy Fine T k row count = show.Mark (eqb (markOf (T .marks) row) 1) (settled k count)
-shownBy (Refused number place) T k row count = show.Refused number place
+abbrev pub shownBy : Verdict → Offset → Table → ℕ → ℕ → Shown
+shownBy Fine k T row count = show.Mark (eqb (markOf (T .marks) row) 1) (settled k count)
+shownBy (Refused number place) k T row count = show.Refused number place
 
-unfoldable pub shown : Table → Offset → ℕ → ℕ → Shown
-shown T k row count = shownBy (judged (shapeChecks winch T ++ (rowRule (T .rows) row ∷ []))) T k row count
+unfoldable pub shown : Offset → Table → ℕ → ℕ → Shown
+shown k T row count = shownBy (judged (shapeChecks winch T ++ (rowRule (T .rows) row ∷ []))) k T row count

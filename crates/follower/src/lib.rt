@@ -90,8 +90,8 @@ fn advance_within(
     event: usize,
 ) -> Next
     requires { ⌜ length (now cells) ≡ rows * events ⌝ }
-    ensures { λ r. ⌜ r ≡ advancedBy (judged (cellChecks (tableOf rows events start (now (cells .entry)) (now (marks .entry))) row event))
-        (tableOf rows events start (now (cells .entry)) (now (marks .entry))) row count event ⌝ }
+    ensures { λ r. ⌜ (let T = tableOf rows events start (now (cells .entry)) (now (marks .entry)) in
+        r ≡ advancedBy (judged (cellChecks T row event)) T row count event) ⌝ }
 {
     let at = row as usize;
     if rows <= at {
@@ -151,8 +151,9 @@ pub fn step(
     marks: &[u8],
     event: usize,
 ) -> rules::Verdict
-    ensures { λ r. ⌜ (now (f .exit) ≡ moved (advanced (tableOf rows events start (now (cells .entry)) (now (marks .entry))) (now (f .entry) .row) (now (f .entry) .count) event))
-        × (r ≡ advanced (tableOf rows events start (now (cells .entry)) (now (marks .entry))) (now (f .entry) .row) (now (f .entry) .count) event .verdict) ⌝ }
+    ensures { λ r. ⌜ (let T = tableOf rows events start (now (cells .entry)) (now (marks .entry)) in
+        let next = advanced T (now (f .entry) .row) (now (f .entry) .count) event in
+        (now (f .exit) ≡ moved next) × (r ≡ next .verdict)) ⌝ }
 {
     let row = f.row;
     let count = f.count;
@@ -178,8 +179,9 @@ pub fn stepped(
     marks: &[u8],
     event: usize,
 ) -> Outcome
-    ensures { λ r. ⌜ (r .to ≡ moved (advanced (tableOf rows events start (now (cells .entry)) (now (marks .entry))) (f .row) (f .count) event))
-        × (r .verdict ≡ advanced (tableOf rows events start (now (cells .entry)) (now (marks .entry))) (f .row) (f .count) event .verdict) ⌝ }
+    ensures { λ r. ⌜ (let T = tableOf rows events start (now (cells .entry)) (now (marks .entry)) in
+        let next = advanced T (f .row) (f .count) event in
+        (r .to ≡ moved next) × (r .verdict ≡ next .verdict)) ⌝ }
 {
     let mut g = f;
     let verdict = step(&mut g, rows, events, start, cells, marks, event);
@@ -198,15 +200,15 @@ fn is_settled(offset: rules::Offset, count: u16) -> bool
 
 // The mark of a follower's row, and whether it is settled.
 pub fn answer(
+    offset: rules::Offset,
     f: Follower,
     rows: usize,
     events: usize,
     start: usize,
     cells: &[u16],
     marks: &[u8],
-    offset: rules::Offset,
 ) -> Shown
-    ensures { λ r. ⌜ r ≡ shown (tableOf rows events start (now (cells .entry)) (now (marks .entry))) (offsetOf offset) (f .row) (f .count) ⌝ }
+    ensures { λ r. ⌜ r ≡ shown (offsetOf offset) (tableOf rows events start (now (cells .entry)) (now (marks .entry))) (f .row) (f .count) ⌝ }
 {
     match checked(rows, events, start, cells, marks) {
         rules::Verdict::Refused(number, place) => Shown::Refused(number, place),

@@ -27,17 +27,17 @@ fn print_shown(s: Shown) {
 }
 
 // Two rows that change places with each event; row 1 is ready.
-fn answer(f: Follower, k: Offset) -> Shown {
-    follower::answer(f, 2, 1, 0, &[1, 0], &[2], k)
+fn answer(k: Offset, f: Follower) -> Shown {
+    follower::answer(k, f, 2, 1, 0, &[1, 0], &[2])
 }
 
 // The follower after n events, at offset 3, at offset 65,535 and at none.
 fn print_follower(n: usize, f: Follower) {
     print_text(b"events");
     print_number(n);
-    print_shown(answer(f, Offset::Number(3)));
-    print_shown(answer(f, Offset::Number(65535)));
-    print_shown(answer(f, Offset::None));
+    print_shown(answer(Offset::Number(3), f));
+    print_shown(answer(Offset::Number(65535), f));
+    print_shown(answer(Offset::None, f));
     print_text(b"\n");
 }
 

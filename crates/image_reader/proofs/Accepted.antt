@@ -39,21 +39,19 @@ pub record Reads (b : List ℕ) (rows count one start : ℕ) : Type 0 where
   pub one-at : numberAt b (startAt rows count) ≡ one
   pub start-at : numberAt b (startAt rows count + 2) ≡ start
 
--- The checks in their order, of bytes with these numbers; the image ends early if it ends before the place of a cutRule.
-
 -- The reader's answer, from the numbers that stand in the bytes.
-image-checks : (L : Limits) (small : ℕ) (b : List ℕ) (rows count one start : ℕ) → Reads b rows count one start
-    → imageRead L small b ≡ answered (judged (readChecks L small b rows count one start)) (read.Table rows (count / rows) start)
+image-checks : (L : Limits) (few : ℕ → Verdict) (b : List ℕ) (rows count one start : ℕ) → Reads b rows count one start
+    → imageRead L few b ≡ answered (judged (readChecks L few b rows count one start)) (read.Table rows (count / rows) start)
 unfolding imageRead
-image-checks L small b rows count one start n = rw (n .rows-at, n .count-at, n .one-at, n .start-at)
+image-checks L few b rows count one start n = rw (n .rows-at, n .count-at, n .one-at, n .start-at)
 
 -- The checks of the image of a table.
-abbrev imageChecks : ℕ → List ℕ → ℕ → ℕ → ℕ → List Verdict
-imageChecks small b rows events start = readChecks winch small b rows (rows * events) 1 start
+abbrev imageChecks : (ℕ → Verdict) → List ℕ → ℕ → ℕ → ℕ → List Verdict
+imageChecks few b rows events start = readChecks winch few b rows (rows * events) 1 start
 
-pub record Accepted (small : ℕ) (b : List ℕ) (rows events start : ℕ) : Type 0 where
+pub record Accepted (few : ℕ → Verdict) (b : List ℕ) (rows events start : ℕ) : Type 0 where
   pub valid : Valid (tableIn b rows events start)
-  pub few : rows ≤ small
+  pub few-rows : few rows ≡ Fine
   pub whole : length b ≡ imageLength rows events
   pub reads : Reads b rows (rows * events) 1 start
 
@@ -61,11 +59,11 @@ answered-table : (v : Verdict) (r : Read) (rows events start : ℕ) → answered
 answered-table Fine r rows events start e = (refl, e)
 answered-table (Refused number place) r rows events start e = let z : _≡_ {A = ℕ} 0 1 = cc in absurd (omega arith)
 
-module _ (small : ℕ) (b : List ℕ) (bytes : Bytes b) (rows events start : ℕ) where
+module _ (few : ℕ → Verdict) (b : List ℕ) (bytes : Bytes b) (rows events start : ℕ) where
   -- `at i` is check i of the row, counted from 0.
-  fine-accepted : judged (imageChecks small b rows events start) ≡ Fine → Reads b rows (rows * events) 1 start → Accepted small b rows events start
+  fine-accepted : judged (imageChecks few b rows events start) ≡ Fine → Reads b rows (rows * events) 1 start → Accepted few b rows events start
   fine-accepted e n =
-      let at = passed (imageChecks small b rows events start) e in
+      let at = passed (imageChecks few b rows events start) e in
       let row = inside 1024 rows .0 (unbroken _ _ _ (at 1)) in
       let event : (1 ≤ events) × (events ≤ 32) = rw (mul-div-cancel-left events (row .0)) at (inside 32 (rows * events / rows) .0 (unbroken _ _ _ (at 7))) in
       let full : startAt rows (rows * events) + 2 + 2 ≤ length b = ltb-false _ _ (unbroken _ _ _ (at 12)) in
@@ -85,18 +83,18 @@ module _ (small : ℕ) (b : List ℕ) (bytes : Bytes b) (rows events start : ℕ
           spare-clear = spare-clear (marksOf b rows) rows all low .0 (spare-same b rows ∙ unbroken _ _ _ (at 4));
           bytes = low;
         };
-        few = ltb-false _ _ (unbroken _ _ _ (at 2));
+        few-rows = at 2;
         whole = omega arith;
         reads = n;
       }
 
-  accepted-fine : Accepted small b rows events start → judged (imageChecks small b rows events start) ≡ Fine
+  accepted-fine : Accepted few b rows events start → judged (imageChecks few b rows events start) ≡ Fine
   accepted-fine a =
       let v = a .valid in
       rw (
         le-ltb (length b) 2 (omega arith),
         inside 1024 rows .1 (v .some-row, v .rows-fit),
-        le-ltb small rows (a .few),
+        a .few-rows,
         le-ltb (length b) (targetsAt rows) (omega arith),
         sym (spare-same b rows) ∙ spare-clear (marksOf b rows) rows (v .all-marks) (v .bytes) .1 (v .spare-clear),
         le-ltb (length b) (targetsAt rows + 2) (omega arith),
@@ -112,10 +110,10 @@ module _ (small : ℕ) (b : List ℕ) (bytes : Bytes b) (rows events start : ℕ
       )
 
   -- From the numbers that stand in the bytes to those of the answer.
-  read-accepted : (r c o s : ℕ) → Reads b r c o s → judged (readChecks winch small b r c o s) ≡ Fine
-      → read.Table r (c / r) s ≡ read.Table rows events start → Accepted small b rows events start
+  read-accepted : (r c o s : ℕ) → Reads b r c o s → judged (readChecks winch few b r c o s) ≡ Fine
+      → read.Table r (c / r) s ≡ read.Table rows events start → Accepted few b rows events start
   read-accepted r c o s n e q =
-      let at = passed (readChecks winch small b r c o s) e in
+      let at = passed (readChecks winch few b r c o s) e in
       let same : r ≡ rows = cc in
       let multiple : c % r ≡ 0 = eqb-true _ 0 (not-false _ (unbroken _ _ _ (at 6))) in
       let count : c ≡ rows * events = cc (div-add-mod c r, add-zero (rows * events)) in
@@ -123,12 +121,12 @@ module _ (small : ℕ) (b : List ℕ) (bytes : Bytes b) (rows events start : ℕ
       let begin : s ≡ start = cc in
       fine-accepted (rw (same, count, one, begin) at e) (rw (same, count, one, begin) at n)
 
-  pub accepted : (imageRead winch small b ≡ read.Table rows events start) ↔ Accepted small b rows events start
+  pub accepted : (imageRead winch few b ≡ read.Table rows events start) ↔ Accepted few b rows events start
   accepted = (
     λ e. let n : Reads b _ _ _ _ = record { rows-at = refl; count-at = refl; one-at = refl; start-at = refl } in
-        let t = answered-table _ _ rows events start (sym (image-checks winch small b _ _ _ _ n) ∙ e) in
+        let t = answered-table _ _ rows events start (sym (image-checks winch few b _ _ _ _ n) ∙ e) in
         read-accepted _ _ _ _ n (t .0) (t .1),
-    λ a. image-checks winch small b rows (rows * events) 1 start (a .reads) ∙ rw (accepted-fine a, mul-div-cancel-left events (a .valid .some-row)),
+    λ a. image-checks winch few b rows (rows * events) 1 start (a .reads) ∙ rw (accepted-fine a, mul-div-cancel-left events (a .valid .some-row)),
   )
 
 -- What any accepted image has room for, whatever the limits.
@@ -136,22 +134,22 @@ pub record Holds (b : List ℕ) (rows events : ℕ) : Type 0 where
   pub fits : targetsAt rows + 2 + 2 * (rows * events) ≤ length b
   pub small : rows * events ≤ 65535
 
-module _ (L : Limits) (small : ℕ) (b : List ℕ) (bytes : Bytes b) (rows events start : ℕ) where
-  held : (r c o s : ℕ) → c ≤ 65535 → judged (readChecks L small b r c o s) ≡ Fine → read.Table r (c / r) s ≡ read.Table rows events start → Holds b rows events
+module _ (L : Limits) (few : ℕ → Verdict) (b : List ℕ) (bytes : Bytes b) (rows events start : ℕ) where
+  held : (r c o s : ℕ) → c ≤ 65535 → judged (readChecks L few b r c o s) ≡ Fine → read.Table r (c / r) s ≡ read.Table rows events start → Holds b rows events
   held r c o s low e q =
-      let at = passed (readChecks L small b r c o s) e in
+      let at = passed (readChecks L few b r c o s) e in
       let same : r ≡ rows = cc in
       let multiple : c % r ≡ 0 = eqb-true _ 0 (not-false _ (unbroken _ _ _ (at 6))) in
       let count : c ≡ rows * events = cc (div-add-mod c r, add-zero (rows * events)) in
       let full : startAt r c ≤ length b = ltb-false _ _ (unbroken _ _ _ (at 8)) in
       record { fits = rw (same, count) at full; small = rw count at low }
 
-  pub read-holds : imageRead L small b ≡ read.Table rows events start → Holds b rows events
+  pub read-holds : imageRead L few b ≡ read.Table rows events start → Holds b rows events
   read-holds e =
       let r : ℕ = numberAt b 0 in
       let c : ℕ = numberAt b (targetsAt r) in
       let o : ℕ = numberAt b (startAt r c) in
       let s : ℕ = numberAt b (startAt r c + 2) in
       let n : Reads b r c o s = record { rows-at = refl; count-at = refl; one-at = refl; start-at = refl } in
-      let t = answered-table (judged (readChecks L small b r c o s)) (read.Table r (c / r) s) rows events start (sym (image-checks L small b r c o s n) ∙ e) in
+      let t = answered-table (judged (readChecks L few b r c o s)) (read.Table r (c / r) s) rows events start (sym (image-checks L few b r c o s n) ∙ e) in
       held r c o s (omega (arith, bytes (targetsAt r), bytes (targetsAt r + 1))) (t .0) (t .1)

@@ -1,8 +1,12 @@
 -- The sections one after the other make the reader's checks in the order of document 01.
 use mathlib.Core.Path.{_≡_, refl}
+use mathlib.Core.Bool.{Bool, true, false}
 use mathlib.Core.List.{List}
 use Prim.Native.Nat.{ℕ}
-use Rattle.rules.specs.Rules.{andThen}
+use borrow.Author.Tests.{le-ltb}
+use Rattle.rules.specs.Rules.{rule, andThen, outside, rowsRule}
+use Rattle.rules.proofs.Checks.{inside}
+use Rattle.images.specs.Image.{numberAt}
 use Rattle.rules.specs.declared.Limits.{Limits}
 use Rattle.rules.specs.declared.Verdict.{Verdict}
 use Rattle.rules.specs.declared.Verdict.the-variants.{Fine, Refused}
@@ -10,7 +14,7 @@ use Rattle.image_reader.specs.declared.Section.{Section}
 use Rattle.image_reader.specs.declared.Section.the-variants as section
 use Rattle.image_reader.specs.declared.Read.{Read}
 use Rattle.image_reader.specs.declared.Read.the-variants as read
-use Rattle.image_reader.specs.Read.{answered, imageRead}
+use Rattle.image_reader.specs.Read.{anyRows, atMost, answered, imageRead}
 use Rattle.image_reader.specs.Sections.{checked, opened, onward, numberSection, marksSection, targetsSection, startSection, sectionsRead}
 
 onward-opened : (s : Section) (f : ℕ → ℕ → Section) (g : ℕ → ℕ → Read) → onward (opened s f) g ≡ onward s (λ x y. onward (f x y) g)
@@ -26,6 +30,19 @@ answered-then Fine v r = refl
 answered-then (Refused number place) v r = refl
 
 -- The sections one after the other are the reader.
-pub image-order : (L : Limits) (small : ℕ) (b : List ℕ) → sectionsRead L small b ≡ imageRead L small b
+pub image-order : (L : Limits) (few : ℕ → Verdict) (b : List ℕ) → sectionsRead L few b ≡ imageRead L few b
 unfolding imageRead sectionsRead marksSection targetsSection startSection numberSection
-image-order L small b = simp (onward-opened, onward-checked, answered-then)
+image-order L few b = simp (onward-opened, onward-checked, answered-then)
+
+-- Rows that the limit allows are not above it.
+never-twelve : (L : Limits) (rows : ℕ) (v : Verdict) → andThen (rowsRule L rows) (andThen (atMost (L .rows) rows) v) ≡ andThen (rowsRule L rows) v
+never-twelve L rows v = pick (outside (L .rows) rows) refl
+  where
+    pick : (t : Bool) → outside (L .rows) rows ≡ t → andThen (rule 1 t 0) (andThen (atMost (L .rows) rows) v) ≡ andThen (rule 1 t 0) v
+    pick true e = refl
+    pick false e = rw (le-ltb (L .rows) rows (inside (L .rows) rows .0 e .1))
+
+-- So a reader that asks for no more rows than the limit never gives 12.
+pub no-twelve : (L : Limits) (b : List ℕ) → imageRead L (atMost (L .rows)) b ≡ imageRead L anyRows b
+unfolding imageRead
+no-twelve L b = rw (never-twelve L (numberAt b 0))

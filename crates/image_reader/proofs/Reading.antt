@@ -8,17 +8,18 @@ use lib.ListN.{length}
 use Rattle.tables.specs.Table.{markBytes}
 use Rattle.tables.specs.Lists.{over}
 use Rattle.rules.specs.declared.Limits.{Limits}
+use Rattle.rules.specs.declared.Verdict.{Verdict}
 use Rattle.images.specs.Image.{marksOf, cellsOf}
 use Rattle.image_reader.specs.Read.{imageRead, roomed, readBy, cellsIn, marksIn}
 use Rattle.image_reader.specs.declared.Read.{Read}
 use Rattle.image_reader.specs.declared.Read.the-variants as read
 
-module _ (L : Limits) (small : ℕ) (b cells marks : List ℕ) where
+module _ (L : Limits) (few : ℕ → Verdict) (b cells marks : List ℕ) where
   -- The answer r, with what is left in the cells and the mark bytes.
   abbrev pub Reads : Read → List ℕ → List ℕ → Type 0
-  Reads r cells′ marks′ = (r ≡ readBy L small b (length cells) (length marks)) × (cells′ ≡ cellsIn r b cells) × (marks′ ≡ marksIn r b marks)
+  Reads r cells′ marks′ = (r ≡ readBy L few b (length cells) (length marks)) × (cells′ ≡ cellsIn r b cells) × (marks′ ≡ marksIn r b marks)
 
-  pub reads-refused : (r : Read) (number place : ℕ) → r ≡ imageRead L small b → r ≡ read.Refused number place → Reads r cells marks
+  pub reads-refused : (r : Read) (number place : ℕ) → r ≡ imageRead L few b → r ≡ read.Refused number place → Reads r cells marks
   unfolding readBy
   reads-refused r number place e h = (
     h ∙ ap (λ (u : Read). roomed u (length cells) (length marks)) (sym h ∙ e),
@@ -26,7 +27,7 @@ module _ (L : Limits) (small : ℕ) (b cells marks : List ℕ) where
     sym (ap (λ (u : Read). marksIn u b marks) h),
   )
 
-  module _ (rows events start : ℕ) (e : imageRead L small b ≡ read.Table rows events start) where
+  module _ (rows events start : ℕ) (e : imageRead L few b ≡ read.Table rows events start) where
     pub reads-short : (ltb (length cells) (rows * events) || ltb (length marks) (markBytes rows)) ≡ true → Reads (read.Refused 7 0) cells marks
     unfolding readBy
     reads-short t = (simp (e, t), refl, refl)

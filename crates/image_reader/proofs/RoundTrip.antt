@@ -2,13 +2,15 @@
 use mathlib.Core.Path.{_≡_, sym, _∙_}
 use mathlib.Core.List.{List, [], _++_}
 use mathlib.Core.Logic.{_↔_}
-use Prim.Native.Nat.{ℕ, _+_, _*_, _≤_}
+use Prim.Native.Nat.{ℕ, _+_, _*_}
 use native.Mathlib.Nat.{mul-le-mul}
 use native.Mathlib.Omega.{arith}
 use lib.ListN.{drop, take-append-drop, drop-of-length-le}
 use lib.Seq.{drop-drop}
 use Rattle.tables.specs.Table.{Table, Valid, markBytes}
 use Rattle.rules.specs.Rules.{winch}
+use Rattle.rules.specs.declared.Verdict.{Verdict}
+use Rattle.rules.specs.declared.Verdict.the-variants.{Fine}
 use Rattle.image_reader.specs.declared.Read.the-variants as read
 use Rattle.images.specs.Image.{number, image, numberAt, targetsAt, startAt, marksOf, tableIn}
 use Rattle.image_reader.specs.Read.{imageRead}
@@ -29,23 +31,23 @@ module _ (T : Table) (v : Valid T) where
     start-at = number-at (image T) _ start [] (start-on T v) (omega arith);
   }
 
-  image-accepted : (small : ℕ) → T .rows ≤ small → Accepted small (image T) (T .rows) (T .events) (T .start)
-  image-accepted small few = record { valid = rw (image-table T v) v; few = few; whole = image-length T v; reads = image-reads }
+  image-accepted : (few : ℕ → Verdict) → few (T .rows) ≡ Fine → Accepted few (image T) (T .rows) (T .events) (T .start)
+  image-accepted few h = record { valid = rw (image-table T v) v; few-rows = h; whole = image-length T v; reads = image-reads }
 
 -- It is accepted.
-pub image-read : (T : Table) (small : ℕ) → T .rows ≤ small → Valid T → imageRead winch small (image T) ≡ read.Table (T .rows) (T .events) (T .start)
-image-read T small few v = accepted small (image T) (image-bytes T v) (T .rows) (T .events) (T .start) .1 (image-accepted T v small few)
+pub image-read : (T : Table) (few : ℕ → Verdict) → few (T .rows) ≡ Fine → Valid T → imageRead winch few (image T) ≡ read.Table (T .rows) (T .events) (T .start)
+image-read T few h v = accepted few (image T) (image-bytes T v) (T .rows) (T .events) (T .start) .1 (image-accepted T v few h)
 
 -- ---- accepted bytes
 
-module _ (small : ℕ) (b : List ℕ) (bytes : Bytes b) where
-  pub read-valid : (rows events start : ℕ) → imageRead winch small b ≡ read.Table rows events start → Valid (tableIn b rows events start) × (rows ≤ small)
-  read-valid rows events start e = let a = accepted small b bytes rows events start .0 e in (a .valid, a .few)
+module _ (few : ℕ → Verdict) (b : List ℕ) (bytes : Bytes b) where
+  pub read-valid : (rows events start : ℕ) → imageRead winch few b ≡ read.Table rows events start → Valid (tableIn b rows events start) × (few rows ≡ Fine)
+  read-valid rows events start e = let a = accepted few b bytes rows events start .0 e in (a .valid, a .few-rows)
 
   -- Read and written again, they are the same bytes.
-  pub read-image : (rows events start : ℕ) → imageRead winch small b ≡ read.Table rows events start → image (tableIn b rows events start) ≡ b
+  pub read-image : (rows events start : ℕ) → imageRead winch few b ≡ read.Table rows events start → image (tableIn b rows events start) ≡ b
   read-image rows events start e =
-      let a = accepted small b bytes rows events start .0 e in
+      let a = accepted few b bytes rows events start .0 e in
       let T = tableIn b rows events start in
       let n = a .reads in
       let rows-on : b ≡ number (numberAt b 0) ++ drop 2 b = number-on b bytes 0 (omega arith) in
@@ -57,10 +59,10 @@ module _ (small : ℕ) (b : List ℕ) (bytes : Bytes b) where
       let last = drop-of-length-le b {i = startAt rows (rows * events) + 2 + 2} (omega arith) in
       cc (image-parts T)
 
-  -- They are the images of the valid tables that are no larger than the smaller limit, and nothing else.
-  pub accepts-exactly : ((rows : ℕ) × (events : ℕ) × (start : ℕ) × (imageRead winch small b ≡ read.Table rows events start))
-      ↔ ((T : Table) × Valid T × (T .rows ≤ small) × (image T ≡ b))
+  -- They are the images of the valid tables with a row count that is asked for, and nothing else: of all valid tables where no more is asked.
+  pub accepts-exactly : ((rows : ℕ) × (events : ℕ) × (start : ℕ) × (imageRead winch few b ≡ read.Table rows events start))
+      ↔ ((T : Table) × Valid T × (few (T .rows) ≡ Fine) × (image T ≡ b))
   accepts-exactly = (
     λ (rows, events, start, e). (tableIn b rows events start, read-valid rows events start e .0, read-valid rows events start e .1, read-image rows events start e),
-    λ (T, v, few, e). (T .rows, T .events, T .start, rw e at (image-read T small few v)),
+    λ (T, v, h, e). (T .rows, T .events, T .start, rw e at (image-read T few h v)),
   )

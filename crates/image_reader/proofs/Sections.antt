@@ -55,12 +55,12 @@ some-row : (L : Limits) (rows : ℕ) (l : List Verdict) → judged (rowsRule L r
 some-row L rows l e = inside (L .rows) rows .0 (unbroken 1 (outside (L .rows) rows) 0 (passed (rowsRule L rows ∷ l) e 0)) .0
 
 -- The row count of an opened marks section is not 0.
-pub marks-got : (L : Limits) (small : ℕ) (b : List ℕ) (rows next : ℕ) → marksSection L small b ≡ Got rows next → 0 < rows
+pub marks-got : (L : Limits) (few : ℕ → Verdict) (b : List ℕ) (rows next : ℕ) → marksSection L few b ≡ Got rows next → 0 < rows
 unfolding marksSection
-marks-got L small b rows next e = pick (numberSection b 0) e
+marks-got L few b rows next e = pick (numberSection b 0) e
   where
     after : ℕ → ℕ → List Verdict
-    after r at = rule 12 (ltb small r) 0 ∷ cutRule b (at + markBytes r) ∷ spareRule r (getD b (at + r / 8) 0) ∷ []
+    after r at = few r ∷ cutRule b (at + markBytes r) ∷ spareRule r (getD b (at + r / 8) 0) ∷ []
 
     pick : (s : Section) → opened s (λ r at. checked (judged (rowsRule L r ∷ after r at)) (Got r (at + markBytes r))) ≡ Got rows next → 0 < rows
     pick (Got r at) h =

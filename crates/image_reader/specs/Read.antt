@@ -22,12 +22,19 @@ cutRule b end = rule 8 (ltb (length b) end) (length b)
 abbrev pub targetsRule : List ℕ → ℕ → ℕ → ℕ → Verdict
 targetsRule b rows at count = rule 5 (ltb (position (leb rows) (cellsAt b at count)) count) (position (leb rows) (cellsAt b at count))
 
--- The checks in the order of the image, of the row count, target count, start count and start that stand in it. Rows above `small` give 12.
-abbrev pub readChecks : Limits → ℕ → List ℕ → ℕ → ℕ → ℕ → ℕ → List Verdict
-readChecks L small b rows count one start =
+-- What a reader asks of the row count besides the limits: document 01's reader nothing more, `reduce` 12 for rows above a smaller number.
+abbrev pub anyRows : ℕ → Verdict
+anyRows rows = Fine
+
+abbrev pub atMost : ℕ → ℕ → Verdict
+atMost small rows = rule 12 (ltb small rows) 0
+
+-- The checks in the order of the image, of the row count, target count, start count and start that stand in it.
+abbrev pub readChecks : Limits → (ℕ → Verdict) → List ℕ → ℕ → ℕ → ℕ → ℕ → List Verdict
+readChecks L few b rows count one start =
     cutRule b 2
     ∷ rowsRule L rows
-    ∷ rule 12 (ltb small rows) 0
+    ∷ few rows
     ∷ cutRule b (targetsAt rows)
     ∷ spareRule rows (getD b (2 + rows / 8) 0)
     ∷ cutRule b (targetsAt rows + 2)
@@ -47,13 +54,13 @@ answered Fine r = r
 answered (Refused number place) r = read.Refused number place
 
 -- What the image says, if no check refuses it.
-unfoldable pub imageRead : Limits → ℕ → List ℕ → Read
-imageRead L small b =
+unfoldable pub imageRead : Limits → (ℕ → Verdict) → List ℕ → Read
+imageRead L few b =
     let rows = numberAt b 0 in
     let count = numberAt b (targetsAt rows) in
     let one = numberAt b (startAt rows count) in
     let start = numberAt b (startAt rows count + 2) in
-    answered (judged (readChecks L small b rows count one start)) (read.Table rows (count / rows) start)
+    answered (judged (readChecks L few b rows count one start)) (read.Table rows (count / rows) start)
 
 -- Lastly 7: the lent cells or mark bytes are too few.
 abbrev pub roomed : Read → ℕ → ℕ → Read
@@ -61,8 +68,8 @@ roomed (read.Table rows events start) cells marks = answered (rule 7 (ltb cells 
 roomed (read.Refused number place) cells marks = read.Refused number place
 
 -- What the reader answers, with room for so many cells and mark bytes.
-unfoldable pub readBy : Limits → ℕ → List ℕ → ℕ → ℕ → Read
-readBy L small b cells marks = roomed (imageRead L small b) cells marks
+unfoldable pub readBy : Limits → (ℕ → Verdict) → List ℕ → ℕ → ℕ → Read
+readBy L few b cells marks = roomed (imageRead L few b) cells marks
 
 -- What the reader leaves in the lent cells and mark bytes.
 abbrev pub cellsIn : Read → List ℕ → List ℕ → List ℕ

@@ -38,10 +38,10 @@ refusalOf (section.Got value next) = read.Refused 0 0
 unfoldable pub numberSection : List ℕ → ℕ → Section
 numberSection b at = checked (cutRule b (at + 2)) (section.Got (numberAt b at) (at + 2))
 
-unfoldable pub marksSection : Limits → ℕ → List ℕ → Section
-marksSection L small b =
+unfoldable pub marksSection : Limits → (ℕ → Verdict) → List ℕ → Section
+marksSection L few b =
     opened (numberSection b 0) (λ rows at.
-    checked (judged (rowsRule L rows ∷ rule 12 (ltb small rows) 0 ∷ cutRule b (at + markBytes rows) ∷ spareRule rows (getD b (at + rows / 8) 0) ∷ []))
+    checked (judged (rowsRule L rows ∷ few rows ∷ cutRule b (at + markBytes rows) ∷ spareRule rows (getD b (at + rows / 8) 0) ∷ []))
     (section.Got rows (at + markBytes rows)))
 
 unfoldable pub targetsSection : Limits → List ℕ → ℕ → ℕ → Section
@@ -56,7 +56,7 @@ startSection b rows place =
     (opened (numberSection b at) (λ start next. checked (rowRule rows start) (section.Got start next))))
 
 -- The sections in order, then 10: bytes follow the last.
-unfoldable pub sectionsRead : Limits → ℕ → List ℕ → Read
-sectionsRead L small b =
-    onward (marksSection L small b) (λ rows at. onward (targetsSection L b rows at) (λ events next. onward (startSection b rows next) (λ start end.
+unfoldable pub sectionsRead : Limits → (ℕ → Verdict) → List ℕ → Read
+sectionsRead L few b =
+    onward (marksSection L few b) (λ rows at. onward (targetsSection L b rows at) (λ events next. onward (startSection b rows next) (λ start end.
     answered (rule 10 (ltb end (length b)) 0) (read.Table rows events start))))

@@ -4,8 +4,9 @@ ghost use Prim.Native.Nat.{_+_, _*_, _≤_, _<_};
 ghost use lib.Dec.{leb};
 ghost use lib.ListN.{length, take, drop};
 ghost use Rattle.tables.specs.Lists.{position, over};
+ghost use Rattle.rules.specs.Rules.{winch};
 ghost use Rattle.images.specs.Image.{numberAt, cellsAt};
-ghost use Rattle.image_reader.specs.Read.{readBy, cellsIn, marksIn};
+ghost use Rattle.image_reader.specs.Read.{anyRows, atMost, readBy, cellsIn, marksIn};
 ghost use Rattle.image_reader.specs.Sections.{numberSection, marksSection, targetsSection, startSection, refusalOf, sectionsRead};
 // What a section gives: its value and the place after it, or the number and place of the rule that it breaks.
 pub enum Section {
@@ -49,7 +50,7 @@ fn number(image: &[u8], at: usize) -> Section
 
 // Marks: the row count, then the packed mark bytes.
 fn marks_section(limits: rules::Limits, small: u16, image: &[u8]) -> Section
-    ensures { λ r. ⌜ r ≡ marksSection limits small (now (image .entry)) ⌝ }
+    ensures { λ r. ⌜ r ≡ marksSection limits (atMost small) (now (image .entry)) ⌝ }
 {
     let count = number(image, 0);
     let Section::Got(rows, at) = count else {
@@ -148,7 +149,7 @@ fn refusal(s: Section) -> Read
 
 // The sections in order, and nothing after the last.
 fn judge(limits: rules::Limits, small: u16, image: &[u8]) -> Read
-    ensures { λ r. ⌜ r ≡ sectionsRead limits small (now (image .entry)) ⌝ }
+    ensures { λ r. ⌜ r ≡ sectionsRead limits (atMost small) (now (image .entry)) ⌝ }
 {
     let marks = marks_section(limits, small, image);
     let Section::Got(rows, at) = marks else {
@@ -192,17 +193,18 @@ fn copy_cells(image: &[u8], at: usize, count: usize, cells: &mut [u16])
     }
 }
 
-// Reads an image into lent cells and mark bytes; nothing is written before all is judged.
-pub fn read_image(
+// Reads an image of a table within limits and of few enough rows into lent cells and mark bytes; nothing is written before all is judged.
+pub fn read_within(
     limits: rules::Limits,
     small: u16,
     image: &[u8],
     cells: &mut [u16],
     marks: &mut [u8],
 ) -> Read
-    ensures { λ r. ⌜ (r ≡ readBy limits small (now (image .entry)) (length (now (cells .entry))) (length (now (marks .entry))))
-        × (now (cells .exit) ≡ cellsIn r (now (image .entry)) (now (cells .entry)))
-        × (now (marks .exit) ≡ marksIn r (now (image .entry)) (now (marks .entry))) ⌝ }
+    ensures { λ r. ⌜ (let b = now (image .entry) in let given = now (cells .entry) in let bytes = now (marks .entry) in
+        (r ≡ readBy limits (atMost small) b (length given) (length bytes))
+        × (now (cells .exit) ≡ cellsIn r b given)
+        × (now (marks .exit) ≡ marksIn r b bytes)) ⌝ }
 {
     let judged = judge(limits, small, image);
     let Read::Table(rows, events, start) = judged else {
@@ -219,4 +221,16 @@ pub fn read_image(
     copy_marks(image, 2, bytes, marks);
     copy_cells(image, 4 + bytes, count, cells);
     Read::Table(rows, events, start)
+}
+
+// Document 01's reader: an image of any table that the winch takes.
+pub fn read_image(image: &[u8], cells: &mut [u16], marks: &mut [u8]) -> Read
+    ensures { λ r. ⌜ (let b = now (image .entry) in let given = now (cells .entry) in let bytes = now (marks .entry) in
+        (r ≡ readBy winch anyRows b (length given) (length bytes))
+        × (now (cells .exit) ≡ cellsIn r b given)
+        × (now (marks .exit) ≡ marksIn r b bytes)) ⌝ }
+{
+    let limits = rules::winch();
+    let most = limits.rows;
+    read_within(limits, most, image, cells, marks)
 }

@@ -70,8 +70,9 @@ pub fn write_image(
     marks: &[u8],
     out: &mut [u8],
 ) -> Written
-    ensures { λ r. ⌜ (r ≡ written (tableOf rows events start (now (cells .entry)) (now (marks .entry))) (length (now (out .entry))))
-        × (now (out .exit) ≡ imageIn (tableOf rows events start (now (cells .entry)) (now (marks .entry))) (now (out .entry))) ⌝ }
+    ensures { λ r. ⌜ (let T = tableOf rows events start (now (cells .entry)) (now (marks .entry)) in let b = now (out .entry) in
+        (r ≡ written T (length b))
+        × (now (out .exit) ≡ imageIn T b)) ⌝ }
 {
     match rules::check_table(rules::winch(), rows, events, start, cells, marks) {
         rules::Verdict::Refused(number, place) => Written::Refused(number, place),

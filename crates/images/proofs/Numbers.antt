@@ -5,8 +5,8 @@ use Prim.Native.Nat.{ℕ, zero, suc, _+_, _*_, _/_, _%_, _≤_, _<_}
 use native.Mathlib.Nat.{add-zero, mod-eq-of-lt}
 use native.Mathlib.Numerals.{add-one, add-two}
 use native.Mathlib.Omega.{arith}
-use lib.ListN.{length, getD, take, drop, length-drop}
-use lib.Seq.{drop-at, drop-cons, drop-drop, getD-drop, length-take-le, take-suc, getD-take}
+use lib.ListN.{length, getD, take, drop}
+use lib.Seq.{drop-at, drop-cons, drop-drop, getD-drop, length-take-le, take-suc}
 use Rattle.tables.specs.Lists.{tabulate, position, over}
 use Rattle.tables.proofs.Lists.{tabulate-same, tabulate-length, tabulate-at, position-is}
 use Rattle.images.specs.Image.{number, numbers, numberAt, cellsAt}
@@ -121,10 +121,3 @@ cells-position b at count rows i h before here =
     position-is (leb rows) (cellsAt b at count) i 0 (omega arith)
     (λ j g. ap (leb rows) (tabulate-at count (λ k. numberAt b (at + 2 * k)) j 0 (omega arith)) ∙ before j g)
     (λ g. ap (leb rows) (tabulate-at count (λ k. numberAt b (at + 2 * k)) i 0 (omega arith)) ∙ here (omega arith))
-
--- A part of the bytes.
-pub part-length : (b : List ℕ) (at n : ℕ) → at + n ≤ length b → length (take n (drop at b)) ≡ n
-part-length b at n h = length-take-le n (drop at b) (omega (arith, length-drop at b))
-
-pub part-at : (b : List ℕ) (at n i : ℕ) → i < n → getD (take n (drop at b)) i 0 ≡ getD b (at + i) 0
-part-at b at n i h = getD-take n (drop at b) i 0 h ∙ getD-drop at b i 0

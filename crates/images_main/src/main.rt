@@ -46,10 +46,17 @@ fn write(rows: usize, events: usize, start: usize, cells: &[u16], marks: &[u8], 
     }
 }
 
-fn read(small: u16, image: &[u8]) {
+fn read(image: &[u8]) {
     let mut cells = [9999u16; 4];
     let mut marks = [99u8; 2];
-    print_read(image_reader::read_image(rules::winch(), small, image, &mut cells, &mut marks));
+    print_read(image_reader::read_image(image, &mut cells, &mut marks));
+}
+
+// The reader with a smaller row limit, as `reduce` has it.
+fn read_few(small: u16, image: &[u8]) {
+    let mut cells = [9999u16; 4];
+    let mut marks = [99u8; 2];
+    print_read(image_reader::read_within(rules::winch(), small, image, &mut cells, &mut marks));
 }
 
 // The writer: rules 1 to 7.
@@ -69,26 +76,26 @@ fn writer_refusals() {
 // The reader: an image of one byte, a target count that is no multiple, a start count of 2, no event, a bad target, a bad
 // start, a spare bit, one byte more, and rows above the smaller limit.
 fn reader_refusals() {
-    read(1024, &[3]);
-    read(1024, &[2, 0, 0, 3, 0]);
-    read(1024, &[1, 0, 0, 1, 0, 0, 0, 2, 0, 0, 0]);
-    read(1024, &[2, 0, 0, 0, 0]);
-    read(1024, &[2, 0, 0, 2, 0, 1, 0, 2, 0]);
-    read(1024, &[2, 0, 0, 2, 0, 1, 0, 0, 0, 1, 0, 2, 0]);
-    read(1024, &[2, 0, 4]);
-    read(1024, &[3, 0, 1, 3, 0, 1, 0, 2, 0, 2, 0, 1, 0, 0, 0, 7]);
-    read(128, &[129, 0]);
-    read(128, &[1, 4]);
-    read(1024, &[0, 0]);
+    read(&[3]);
+    read(&[2, 0, 0, 3, 0]);
+    read(&[1, 0, 0, 1, 0, 0, 0, 2, 0, 0, 0]);
+    read(&[2, 0, 0, 0, 0]);
+    read(&[2, 0, 0, 2, 0, 1, 0, 2, 0]);
+    read(&[2, 0, 0, 2, 0, 1, 0, 0, 0, 1, 0, 2, 0]);
+    read(&[2, 0, 4]);
+    read(&[3, 0, 1, 3, 0, 1, 0, 2, 0, 2, 0, 1, 0, 0, 0, 7]);
+    read_few(128, &[129, 0]);
+    read_few(128, &[1, 4]);
+    read(&[0, 0]);
 }
 
 fn truncations(image: &[u8]) {
     let mut n = 0;
     while n < image.len() {
-        read(1024, &image[..n]);
+        read(&image[..n]);
         n += 1;
     }
-    read(1024, image);
+    read(image);
 }
 
 // Written, shown, and read back, with room to spare that stays as it was.
@@ -98,7 +105,7 @@ fn round_trip() {
     print_bytes(&out);
     let mut cells = [9999u16; 4];
     let mut marks = [99u8; 2];
-    print_read(image_reader::read_image(rules::winch(), 1024, &out[..15], &mut cells, &mut marks));
+    print_read(image_reader::read_image(&out[..15], &mut cells, &mut marks));
     print_cells(&cells);
     print_bytes(&marks);
 }

@@ -22,11 +22,11 @@ pub fn reduce(
     records: &mut [Record],
     scratch: &mut [u16],
 ) -> Answer
-    ensures { λ r. ⌜ Promise (verdict (tableOf rows events start (now (cells .entry)) (now (marks .entry))) (length (now (newcells .entry))) (length (now (newmarks .entry))) (length (now (records .entry))) (length (now (scratch .entry))))
-        (offsetOf offset) (tableOf rows events start (now (cells .entry)) (now (marks .entry)))
-        (now (newcells .entry)) (now (newmarks .entry)) (now (scratch .entry)) r (now (newcells .exit)) (now (newmarks .exit)) (now (scratch .exit))
-        × (now (records .exit) ≡ recordsBy (verdict (tableOf rows events start (now (cells .entry)) (now (marks .entry))) (length (now (newcells .entry))) (length (now (newmarks .entry))) (length (now (records .entry))) (length (now (scratch .entry))))
-        (now (records .entry)) (recordsOf unit (offsetOf offset) (tableOf rows events start (now (cells .entry)) (now (marks .entry))))) ⌝ }
+    ensures { λ r. ⌜ (let T = tableOf rows events start (now (cells .entry)) (now (marks .entry)) in let k = offsetOf offset in
+        let lent = now (newcells .entry) in let bytes = now (newmarks .entry) in let before = now (records .entry) in let s = now (scratch .entry) in
+        let v = verdict T (length lent) (length bytes) (length before) (length s) in
+        Promise v k T lent bytes s r (now (newcells .exit)) (now (newmarks .exit)) (now (scratch .exit))
+        × (now (records .exit) ≡ recordsBy v before (recordsOf unit k T))) ⌝ }
 {
     let w = reduction::work(
         offset,
@@ -65,11 +65,11 @@ pub fn reduce_recorded(
     blank: [Record; 1024],
     scratch: &mut [u16],
 ) -> Outcome
-    ensures { λ r. ⌜ Promise (verdict (tableOf rows events start (now (cells .entry)) (now (marks .entry))) (length (now (newcells .entry))) (length (now (newmarks .entry))) 1024 (length (now (scratch .entry))))
-        (offsetOf offset) (tableOf rows events start (now (cells .entry)) (now (marks .entry)))
-        (now (newcells .entry)) (now (newmarks .entry)) (now (scratch .entry)) (r .answer) (now (newcells .exit)) (now (newmarks .exit)) (now (scratch .exit))
-        × (r .records ≡ recordsBy (verdict (tableOf rows events start (now (cells .entry)) (now (marks .entry))) (length (now (newcells .entry))) (length (now (newmarks .entry))) 1024 (length (now (scratch .entry))))
-        blank (recordsOf unit (offsetOf offset) (tableOf rows events start (now (cells .entry)) (now (marks .entry))))) ⌝ }
+    ensures { λ r. ⌜ (let T = tableOf rows events start (now (cells .entry)) (now (marks .entry)) in let k = offsetOf offset in
+        let lent = now (newcells .entry) in let bytes = now (newmarks .entry) in let s = now (scratch .entry) in
+        let v = verdict T (length lent) (length bytes) 1024 (length s) in
+        Promise v k T lent bytes s (r .answer) (now (newcells .exit)) (now (newmarks .exit)) (now (scratch .exit))
+        × (r .records ≡ recordsBy v blank (recordsOf unit k T))) ⌝ }
 {
     let mut records = blank;
     let answer = reduce(

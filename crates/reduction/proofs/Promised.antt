@@ -81,6 +81,9 @@ module _ (k : Offset) (T : Table) (cells marks scratch : List ℕ) (records : �
     keeps-3 : Fewest unit k T (written n (T .events) cells′ marks′)
     keeps-3 = subst (Fewest unit k T) (sym stands) (fewest unit unit-light T (roomy .valid) k)
 
+    keeps-valid : let N = written n (T .events) cells′ marks′ in Valid N × (N .events ≡ T .events)
+    keeps-valid = (subst Valid (sym stands) (valid unit unit-light T (roomy .valid) k), refl)
+
   -- Cleared after the work, the scratch is as promised.
   finished : (u : Verdict) → verdict T (length cells) (length marks) records (length scratch) ≡ u
       → cleared (workedBy u k T scratch) 0 (needed (recorded u (T .rows))) ≡ leftBy u scratch (replicate (scratchCells (T .rows)) 0)
@@ -103,4 +106,5 @@ module _ (k : Offset) (T : Table) (cells marks scratch : List ℕ) (records : �
             hs ∙ ap (λ (d : Done). cleared t 0 (needed (d .rows))) hw ∙ ap (λ (x : List ℕ). cleared x 0 (needed (recorded v (T .rows)))) ht ∙ finished v refl;
         demand-2 = keeps-2 (w .answer) cells′ marks′ hr hc hm;
         demand-3 = keeps-3 (w .answer) cells′ marks′ hr hc hm;
+        one-of-those = keeps-valid (w .answer) cells′ marks′ hr hc hm;
       }

@@ -5,7 +5,7 @@ use Prim.Native.Nat.{ℕ, _+_, _-_, _*_, _/_}
 use lib.ListN.{take, replicate}
 use Rattle.automata.specs.Runs.{AgreeFrom}
 use Rattle.tables.specs.Lists.{over}
-use Rattle.tables.specs.Table.{Table, Offset, offset, none, markBytes, machine, eventsOf, unit, Fewest}
+use Rattle.tables.specs.Table.{Table, Offset, offset, none, Valid, markBytes, machine, eventsOf, unit, Fewest}
 use Rattle.tables.specs.Reduction.{reduced}
 use Rattle.rules.specs.Rules.{judged, winch, roomRule, tableChecks, tableOf}
 use Rattle.rules.specs.declared.Verdict.{Verdict}
@@ -60,3 +60,5 @@ pub record Promise (v : Verdict) (k : Offset) (T : Table) (cells marks scratch :
   pub demand-2 : (n : ℕ) → r ≡ answer.Reduced n → AgreeFrom (eventsOf unit T) (from k T) (machine T) (machine (written n (T .events) cells′ marks′))
   -- Demand 3: every table over the same events that agrees so has at least as many rows.
   pub demand-3 : (n : ℕ) → r ≡ answer.Reduced n → Fewest unit k T (written n (T .events) cells′ marks′)
+  -- It is itself one of those tables: it breaks no rule, and is over the same events.
+  pub one-of-those : (n : ℕ) → r ≡ answer.Reduced n → let U = written n (T .events) cells′ marks′ in Valid U × (U .events ≡ T .events)

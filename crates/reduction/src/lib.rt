@@ -90,15 +90,14 @@ pub fn work(
     scratch: &mut [u16],
     room: usize,
 ) -> Done
-    ensures { λ r. ⌜ (r ≡ workBy (verdict (tableOf rows events start (now (cells .entry)) (now (marks .entry))) (length (now (newcells .entry))) (length (now (newmarks .entry))) room (length (now (scratch .entry))))
-        (offsetOf offset) (tableOf rows events start (now (cells .entry)) (now (marks .entry))))
-        × (now (newcells .exit) ≡ leftBy (verdict (tableOf rows events start (now (cells .entry)) (now (marks .entry))) (length (now (newcells .entry))) (length (now (newmarks .entry))) room (length (now (scratch .entry))))
-        (now (newcells .entry)) (reduced unit (offsetOf offset) (tableOf rows events start (now (cells .entry)) (now (marks .entry))) .cells))
-        × (now (newmarks .exit) ≡ leftBy (verdict (tableOf rows events start (now (cells .entry)) (now (marks .entry))) (length (now (newcells .entry))) (length (now (newmarks .entry))) room (length (now (scratch .entry))))
-        (now (newmarks .entry)) (reduced unit (offsetOf offset) (tableOf rows events start (now (cells .entry)) (now (marks .entry))) .marks))
-        × (now (scratch .exit) ≡ workedBy (verdict (tableOf rows events start (now (cells .entry)) (now (marks .entry))) (length (now (newcells .entry))) (length (now (newmarks .entry))) room (length (now (scratch .entry))))
-        (offsetOf offset) (tableOf rows events start (now (cells .entry)) (now (marks .entry))) (now (scratch .entry)))
-        × (verdict (tableOf rows events start (now (cells .entry)) (now (marks .entry))) (length (now (newcells .entry))) (length (now (newmarks .entry))) room (length (now (scratch .entry))) ≡ Fine → Valid (tableOf rows events start (now (cells .entry)) (now (marks .entry)))) ⌝ }
+    ensures { λ r. ⌜ (let T = tableOf rows events start (now (cells .entry)) (now (marks .entry)) in let k = offsetOf offset in
+        let lent = now (newcells .entry) in let bytes = now (newmarks .entry) in let s = now (scratch .entry) in
+        let v = verdict T (length lent) (length bytes) room (length s) in
+        (r ≡ workBy v k T)
+        × (now (newcells .exit) ≡ leftBy v lent (reduced unit k T .cells))
+        × (now (newmarks .exit) ≡ leftBy v bytes (reduced unit k T .marks))
+        × (now (scratch .exit) ≡ workedBy v k T s)
+        × (v ≡ Fine → Valid T)) ⌝ }
 {
     match check(
         rows,
@@ -154,9 +153,10 @@ pub fn reduce_table(
     newmarks: &mut [u8],
     scratch: &mut [u16],
 ) -> Answer
-    ensures { λ r. ⌜ Promise (verdict (tableOf rows events start (now (cells .entry)) (now (marks .entry))) (length (now (newcells .entry))) (length (now (newmarks .entry))) rows (length (now (scratch .entry))))
-        (offsetOf offset) (tableOf rows events start (now (cells .entry)) (now (marks .entry)))
-        (now (newcells .entry)) (now (newmarks .entry)) (now (scratch .entry)) r (now (newcells .exit)) (now (newmarks .exit)) (now (scratch .exit)) ⌝ }
+    ensures { λ r. ⌜ (let T = tableOf rows events start (now (cells .entry)) (now (marks .entry)) in
+        let lent = now (newcells .entry) in let bytes = now (newmarks .entry) in let s = now (scratch .entry) in
+        let v = verdict T (length lent) (length bytes) rows (length s) in
+        Promise v (offsetOf offset) T lent bytes s r (now (newcells .exit)) (now (newmarks .exit)) (now (scratch .exit))) ⌝ }
 {
     let w = work(
         offset,

@@ -1,13 +1,13 @@
 -- The table that is left when rows fold as the scratch says.
 use mathlib.Core.Bool.{Bool, cond, _&&_}
 use mathlib.Core.List.{List}
-use Prim.Native.Nat.{ℕ, _+_, _*_}
+use Prim.Native.Nat.{ℕ, _*_}
 use lib.Dec.{leb}
-use lib.ListN.{length, getD, take, drop}
+use lib.ListN.{length}
 use Rattle.tables.specs.Lists.{tabulate, over}
 use Rattle.tables.specs.Table.{Table, markBytes, machine, eventsOf, unit}
 use Rattle.tables.specs.Reduction.{numbering, number, renumbered}
-use Rattle.scratch.specs.Scratch.{foldIn, workable, queueAt, foldsAt, numbersAt}
+use Rattle.scratch.specs.Scratch.{foldIn, workable, queueAt, numbersAt}
 
 module _ (T : Table) (s : List ℕ) where
   -- The rows in the order of their new numbers.

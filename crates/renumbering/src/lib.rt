@@ -29,8 +29,9 @@ fn place(cells: &[u16], at: usize, count: usize, x: u16) -> usize
 // Puts x behind the `count` cells from `at` on, unless it is one of them; answers how many they are then.
 fn join(cells: &mut [u16], at: usize, count: usize, x: u16) -> usize
     requires { ⌜ at + count < length (now cells) ⌝ }
-    ensures { λ r. ⌜ (r ≡ length (sift eqb (take count (drop at (now (cells .entry)))) (x ∷ [])))
-        × (now (cells .exit) ≡ over (now (cells .entry)) at (sift eqb (take count (drop at (now (cells .entry)))) (x ∷ []))) ⌝ }
+    ensures { λ r. ⌜ (let s = now (cells .entry) in let line = sift eqb (take count (drop at s)) (x ∷ []) in
+        (r ≡ length line)
+        × (now (cells .exit) ≡ over s at line)) ⌝ }
 {
     if place(cells, at, count, x) < count {
         return count;
@@ -43,8 +44,9 @@ fn join(cells: &mut [u16], at: usize, count: usize, x: u16) -> usize
 fn meet(cells: &[u16], rows: u16, events: u16, scratch: &mut [u16], row: u16, count: usize) -> usize
     requires { ⌜ (needed rows ≤ length (now scratch)) × ((q : ℕ) → getD (now cells) q 0 < rows) × (count ≤ rows) ⌝ }
     requires { ⌜ Line rows (foldIn (now scratch) rows) (queued (now scratch) rows count) ⌝ }
-    ensures { λ r. ⌜ (r ≡ length (sift eqb (queued (now (scratch .entry)) rows count) (next (now (cells .entry)) (now (scratch .entry)) rows events row)))
-        × (now (scratch .exit) ≡ over (now (scratch .entry)) (queueAt rows) (sift eqb (queued (now (scratch .entry)) rows count) (next (now (cells .entry)) (now (scratch .entry)) rows events row))) ⌝ }
+    ensures { λ r. ⌜ (let s = now (scratch .entry) in let line = sift eqb (queued s rows count) (next (now (cells .entry)) s rows events row) in
+        (r ≡ length line)
+        × (now (scratch .exit) ≡ over s (queueAt rows) line)) ⌝ }
 {
     let at = scratch::queue_at(rows);
     let folds = scratch::folds_at(rows);
@@ -70,8 +72,9 @@ fn go_through(
 ) -> usize
     requires { ⌜ Valid (tableOf rows events start (now cells) (now marks)) ⌝ }
     requires { ⌜ (needed rows ≤ length (now scratch)) × (getD (now scratch) (queueAt rows) 0 ≡ foldIn (now scratch) rows start) ⌝ }
-    ensures { λ r. ⌜ (r ≡ length (line (tableOf rows events start (now (cells .entry)) (now (marks .entry))) (now (scratch .entry))))
-        × (now (scratch .exit) ≡ over (now (scratch .entry)) (queueAt rows) (line (tableOf rows events start (now (cells .entry)) (now (marks .entry))) (now (scratch .entry)))) ⌝ }
+    ensures { λ r. ⌜ (let T = tableOf rows events start (now (cells .entry)) (now (marks .entry)) in let s = now (scratch .entry) in
+        (r ≡ length (line T s))
+        × (now (scratch .exit) ≡ over s (queueAt rows) (line T s))) ⌝ }
 {
     let at = scratch::queue_at(rows);
     let mut count = 1;
@@ -95,8 +98,9 @@ fn line_up(
 ) -> usize
     requires { ⌜ Valid (tableOf rows events start (now cells) (now marks)) ⌝ }
     requires { ⌜ needed rows ≤ length (now scratch) ⌝ }
-    ensures { λ r. ⌜ (r ≡ length (line (tableOf rows events start (now (cells .entry)) (now (marks .entry))) (now (scratch .entry))))
-        × (now (scratch .exit) ≡ over (now (scratch .entry)) (queueAt rows) (line (tableOf rows events start (now (cells .entry)) (now (marks .entry))) (now (scratch .entry)))) ⌝ }
+    ensures { λ r. ⌜ (let T = tableOf rows events start (now (cells .entry)) (now (marks .entry)) in let s = now (scratch .entry) in
+        (r ≡ length (line T s))
+        × (now (scratch .exit) ≡ over s (queueAt rows) (line T s))) ⌝ }
 {
     let first = scratch::cell(scratch, scratch::folds_at(rows) + rules::wide(start));
     scratch::put(scratch, scratch::queue_at(rows), first);
@@ -106,8 +110,8 @@ fn line_up(
 // Writes the new number of the row into which each row folds: its place among the `count` rows in line.
 fn number_rows(rows: u16, scratch: &mut [u16], count: usize)
     requires { ⌜ (needed rows ≤ length (now scratch)) × (count ≤ rows) ⌝ }
-    ensures { λ r. ⌜ now (scratch .exit) ≡ over (now (scratch .entry)) (numbersAt rows)
-        (tabulate rows (λ q. placeIn (foldIn (now (scratch .entry)) rows q) (queued (now (scratch .entry)) rows count))) ⌝ }
+    ensures { λ r. ⌜ (let s = now (scratch .entry) in
+        now (scratch .exit) ≡ over s (numbersAt rows) (tabulate rows (λ q. placeIn (foldIn s rows q) (queued s rows count)))) ⌝ }
 {
     let queue = scratch::queue_at(rows);
     let folds = scratch::folds_at(rows);
@@ -189,10 +193,12 @@ fn renumber_within(
 ) -> usize
     requires { ⌜ Valid (tableOf rows events start (now cells) (now marks)) ⌝ }
     requires { ⌜ (needed rows ≤ length (now scratch)) × (rows * events ≤ length (now newcells)) × (markBytes rows ≤ length (now newmarks)) ⌝ }
-    ensures { λ r. ⌜ (r ≡ left (tableOf rows events start (now (cells .entry)) (now (marks .entry))) (now (scratch .entry)) .rows)
-        × (now (scratch .exit) ≡ numbered (tableOf rows events start (now (cells .entry)) (now (marks .entry))) (now (scratch .entry)))
-        × (now (newcells .exit) ≡ over (now (newcells .entry)) 0 (left (tableOf rows events start (now (cells .entry)) (now (marks .entry))) (now (scratch .entry)) .cells))
-        × (now (newmarks .exit) ≡ over (now (newmarks .entry)) 0 (left (tableOf rows events start (now (cells .entry)) (now (marks .entry))) (now (scratch .entry)) .marks)) ⌝ }
+    ensures { λ r. ⌜ (let T = tableOf rows events start (now (cells .entry)) (now (marks .entry)) in let s = now (scratch .entry) in
+        let U = left T s in
+        (r ≡ U .rows)
+        × (now (scratch .exit) ≡ numbered T s)
+        × (now (newcells .exit) ≡ over (now (newcells .entry)) 0 (U .cells))
+        × (now (newmarks .exit) ≡ over (now (newmarks .entry)) 0 (U .marks))) ⌝ }
 {
     let count = line_up(rows, events, start, cells, marks, scratch);
     number_rows(rows, scratch, count);
@@ -220,10 +226,12 @@ pub fn renumber(
     newcells: &mut [u16],
     newmarks: &mut [u8],
 ) -> usize
-    ensures { λ r. ⌜ (r ≡ newRows (tableOf rows events start (now (cells .entry)) (now (marks .entry))) (now (scratch .entry)) (now (newcells .entry)) (now (newmarks .entry)))
-        × (now (scratch .exit) ≡ newScratch (tableOf rows events start (now (cells .entry)) (now (marks .entry))) (now (scratch .entry)) (now (newcells .entry)) (now (newmarks .entry)))
-        × (now (newcells .exit) ≡ newCells (tableOf rows events start (now (cells .entry)) (now (marks .entry))) (now (scratch .entry)) (now (newcells .entry)) (now (newmarks .entry)))
-        × (now (newmarks .exit) ≡ newMarks (tableOf rows events start (now (cells .entry)) (now (marks .entry))) (now (scratch .entry)) (now (newcells .entry)) (now (newmarks .entry))) ⌝ }
+    ensures { λ r. ⌜ (let T = tableOf rows events start (now (cells .entry)) (now (marks .entry)) in let s = now (scratch .entry) in
+        let room = now (newcells .entry) in let bytes = now (newmarks .entry) in
+        (r ≡ newRows T s room bytes)
+        × (now (scratch .exit) ≡ newScratch T s room bytes)
+        × (now (newcells .exit) ≡ newCells T s room bytes)
+        × (now (newmarks .exit) ≡ newMarks T s room bytes)) ⌝ }
 {
     if !scratch::workable(rows, events, start, cells, marks, scratch.len()) {
         return 0;

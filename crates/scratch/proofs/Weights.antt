@@ -1,5 +1,5 @@
 -- Weights by a mask: each is 0 or 1, and a full mask counts every event.
-use mathlib.Core.Path.{_≡_, refl, sym, ap, fun-ext, _∙_}
+use mathlib.Core.Path.{_≡_, ap, fun-ext, _∙_}
 use Prim.Native.Nat.{ℕ, zero, suc, _-_, _*_, _/_, _%_, _^_, _≤_, _<_}
 use native.Mathlib.Nat.{div-div-eq-div-mul, div-one, pow-succ'}
 use native.Mathlib.Omega.{arith}

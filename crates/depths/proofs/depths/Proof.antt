@@ -6,9 +6,6 @@ use Rattle.depths.proofs.Plumbed.{plumbed-refused, plumbed-done}
 use Rattle.depths.proofs.depths.Statement.{statement}
 use Rattle.depths.proofs.depths.Tie as tie
 
-workable-requires : tie.Need-workable-requires
-workable-requires c κs = search needs
-
 returns : tie.Need-returns
 returns c =
     let a = c .before .before .before .before .before .args in
@@ -38,9 +35,6 @@ search-requires c κs =
     let r = ready (tableOf (a .rows) (a .events) (a .start) (a .cells .now) (a .marks .now)) (a .scratch .now) (λ i. omega (arith, c .before .before .before .before .shared-slice-known2 .given i)) (c .before .before .workable .ensures) (c .before .if1 .left) in
     (r .space, r .start-in)
 
-same-length : tie.Need-same-length
-same-length c = search needs
-
 returns-2 : tie.Need-returns-2
 returns-2 c =
     let a = c .before .before .before .before .before .before .before .before .before .args in
@@ -51,11 +45,11 @@ pub depths-spec : {M : Type 1} → statement M
 depths-spec =
     tie.close
     (tie.spec
-    workable-requires
+    (λ c κs. search needs)
     returns
     cast-search
     cast-search-2
     cast-search-3
     search-requires
-    same-length
+    (λ c. search needs)
     returns-2)

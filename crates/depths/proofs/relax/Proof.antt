@@ -5,41 +5,11 @@ use Rattle.depths.proofs.Moves.{relax-none, relax-kept, relax-raised}
 use Rattle.depths.proofs.relax.Statement.{statement}
 use Rattle.depths.proofs.relax.Tie as tie
 
-lead-at-requires : tie.Need-lead-at-requires
-lead-at-requires c κs = search needs
-
-cell-requires : tie.Need-cell-requires
-cell-requires c κs = search needs
-
-same-length : tie.Need-same-length
-same-length c = search needs
-
 returns : tie.Need-returns
 returns c start marks =
     let a = c .before .before .before .before .before .before .args in
     let T = tableOf (a .rows) (a .events) start (a .cells .now) marks in
     relax-none (a .mask) T (a .scratch .now) (a .row) (a .event) (c .before .before .lead-at .ensures) (c .before .cell .ensures) (omega (arith, c .if1 .taken))
-
-target-requires : tie.Need-target-requires
-target-requires c κs = search needs
-
-lead-at-requires-2 : tie.Need-lead-at-requires-2
-lead-at-requires-2 c κs = search needs
-
-weight-requires : tie.Need-weight-requires
-weight-requires c κs = search needs
-
-longer-requires : tie.Need-longer-requires
-longer-requires c κs = search needs
-
-cell-requires-2 : tie.Need-cell-requires-2
-cell-requires-2 c κs = search needs
-
-put-requires : tie.Need-put-requires
-put-requires c κs = search needs
-
-same-length-2 : tie.Need-same-length-2
-same-length-2 c = search needs
 
 returns-2 : tie.Need-returns-2
 returns-2 c start marks =
@@ -49,9 +19,6 @@ returns-2 c start marks =
     relax-raised (a .mask) T (a .scratch .now) (a .row) (a .event) (c .before .before .before .before .before .before .before .before .before .before .before .before .before .lead-at .ensures) (c .before .before .before .before .before .before .before .before .before .before .before .before .cell .ensures)
     (c .before .before .before .before .before .before .before .before .before .before .target .ensures) (c .before .before .before .before .before .before .before .before .before .lead-at2 .ensures) (c .before .before .before .before .before .before .before .before .weight .ensures) (c .before .before .before .before .before .before .before .longer .ensures) (c .before .before .before .before .before .cell2 .ensures)
     (p .0) (p .1) (p .2) (c .before .before .before .before .before .before .before .before .before .before .before .if1 .left) (omega (arith, c .before .before .before .before .if2 .taken)) (c .before .before .put .ensures)
-
-same-length-3 : tie.Need-same-length-3
-same-length-3 c = search needs
 
 returns-3 : tie.Need-returns-3
 returns-3 c start marks =
@@ -65,17 +32,17 @@ pub relax-spec : {M : Type 1} → statement M
 relax-spec =
     tie.close
     (tie.spec
-    lead-at-requires
-    cell-requires
-    same-length
+    (λ c κs. search needs)
+    (λ c κs. search needs)
+    (λ c. search needs)
     returns
-    target-requires
-    lead-at-requires-2
-    weight-requires
-    longer-requires
-    cell-requires-2
-    put-requires
-    same-length-2
+    (λ c κs. search needs)
+    (λ c κs. search needs)
+    (λ c κs. search needs)
+    (λ c κs. search needs)
+    (λ c κs. search needs)
+    (λ c κs. search needs)
+    (λ c. search needs)
     returns-2
-    same-length-3
+    (λ c. search needs)
     returns-3)

@@ -4,27 +4,6 @@ use Rattle.depths.proofs.Found.{found-by}
 use Rattle.depths.proofs.search.Statement.{statement}
 use Rattle.depths.proofs.search.Tie as tie
 
-lead-at-requires : tie.Need-lead-at-requires
-lead-at-requires c κs = search needs
-
-lead-at-requires-2 : tie.Need-lead-at-requires-2
-lead-at-requires-2 c κs = search needs
-
-clear-requires : tie.Need-clear-requires
-clear-requires c κs = search needs
-
-lead-at-requires-3 : tie.Need-lead-at-requires-3
-lead-at-requires-3 c κs = search needs
-
-put-requires : tie.Need-put-requires
-put-requires c κs = search needs
-
-settle-requires : tie.Need-settle-requires
-settle-requires c κs = search needs
-
-same-length : tie.Need-same-length
-same-length c = search needs
-
 returns : tie.Need-returns
 returns c marks =
     let a = c .before .before .before .before .before .before .before .before .before .before .before .before .before .before .before .before .before .args in
@@ -37,11 +16,11 @@ pub search-spec : {M : Type 1} → statement M
 search-spec =
     tie.close
     (tie.spec
-    lead-at-requires
-    lead-at-requires-2
-    clear-requires
-    lead-at-requires-3
-    put-requires
-    settle-requires
-    same-length
+    (λ c κs. search needs)
+    (λ c κs. search needs)
+    (λ c κs. search needs)
+    (λ c κs. search needs)
+    (λ c κs. search needs)
+    (λ c κs. search needs)
+    (λ c. search needs)
     returns)

@@ -24,19 +24,10 @@ sweep-row-requires c κs =
     let u = steps-space (a .mask) (a .rows) (a .events) (a .cells .now) (QuietRow (a .mask)) (c .before .before .loop .inv .1) (p) in
     (u, c .before .loop-test .taken)
 
-add-row : tie.Need-add-row Inv-loop μ-loop
-add-row c = omega arith
-
-loop-less : tie.Need-loop-less Inv-loop μ-loop
-loop-less c = omega arith
-
 loop-again : tie.Need-loop-again Inv-loop μ-loop
 loop-again c =
     let a = c .before .before .before .before .before .before .before .before .before .args in
     (omega arith, steps-hit (a .mask) (a .rows) (a .events) (a .cells .now) (QuietRow (a .mask)) (c .before .before .before .before .before .before .loop .inv .1) (c .before .before .before .sweep-row .ensures) (c .if1 .taken))
-
-loop-less-2 : tie.Need-loop-less-2 Inv-loop μ-loop
-loop-less-2 c = omega arith
 
 loop-again-2 : tie.Need-loop-again-2 Inv-loop μ-loop
 loop-again-2 c =
@@ -59,10 +50,10 @@ sweep-spec =
     μ-loop
     loop-holds
     sweep-row-requires
-    add-row
-    loop-less
+    (λ c. omega arith)
+    (λ c. omega arith)
     loop-again
-    loop-less-2
+    (λ c. omega arith)
     loop-again-2
     same-length
     returns)

@@ -20,14 +20,14 @@ use Rattle.desk.proofs.write_image_text.Tie as tie
 winch-requires : tie.Need-winch-requires
 winch-requires c κs = search needs
 
-slice-aggregate-read-image : tie.Need-slice-aggregate-read-image
-slice-aggregate-read-image c = search needs
+slice-aggregate-read-within : tie.Need-slice-aggregate-read-within
+slice-aggregate-read-within c = search needs
 
-slice-aggregate-read-image-2 : tie.Need-slice-aggregate-read-image-2
-slice-aggregate-read-image-2 c = search needs
+slice-aggregate-read-within-2 : tie.Need-slice-aggregate-read-within-2
+slice-aggregate-read-within-2 c = search needs
 
-read-image-requires : tie.Need-read-image-requires
-read-image-requires c κs = search needs
+read-within-requires : tie.Need-read-within-requires
+read-within-requires c κs = search needs
 
 enum-known-number : tie.Need-enum-known-number
 enum-known-number c = search needs
@@ -41,7 +41,7 @@ enum-known-rows c = search needs
 mul-count : tie.Need-mul-count
 mul-count c =
     let a = c .before .before .before .before .before .before .before .before .before .before .before .args in
-    record { fits = omega (arith, cells-fit (a .image .now) (λ i. omega (arith, c .before .before .before .before .before .before .before .before .before .before .shared-slice-known .given i)) (c .before .before .before .before .before .before .before .before .winch .result) (c .before .before .before .before .before .before .before .before .winch .ensures) (replicate {A = ℕ} 4096 0) (replicate {A = ℕ} 16 0) (length-replicate {A = ℕ} 4096 0) (length-replicate {A = ℕ} 16 0) (c .before .before .before .before .before .read-image .ensures .0) (c .before .rows .given .0 .0) (c .before .rows .given .0 .1 .0) (c .before .rows .given .0 .1 .1 .0) (c .before .rows .given .1)) }
+    record { fits = omega (arith, cells-fit (a .image .now) (λ i. omega (arith, c .before .before .before .before .before .before .before .before .before .before .shared-slice-known .given i)) (c .before .before .before .before .before .before .before .before .winch .result) (c .before .before .before .before .before .before .before .before .winch .ensures) (replicate {A = ℕ} 4096 0) (replicate {A = ℕ} 16 0) (length-replicate {A = ℕ} 4096 0) (length-replicate {A = ℕ} 16 0) (c .before .before .before .before .before .read-within .ensures .0) (c .before .rows .given .0 .0) (c .before .rows .given .0 .1 .0) (c .before .rows .given .0 .1 .1 .0) (c .before .rows .given .1)) }
 
 mark-bytes-requires : tie.Need-mark-bytes-requires
 mark-bytes-requires c κs = search needs
@@ -49,28 +49,28 @@ mark-bytes-requires c κs = search needs
 array-share-prefix-cells : tie.Need-array-share-prefix-cells
 array-share-prefix-cells c =
     let a = c .before .before .before .before .before .before .before .before .before .before .before .before .args in
-    (part-of-cells (a .image .now) (λ i. omega (arith, c .before .before .before .before .before .before .before .before .before .before .before .shared-slice-known .given i)) (c .before .before .before .before .before .before .before .before .before .winch .result) (c .before .before .before .before .before .before .before .before .before .winch .ensures) (replicate {A = ℕ} 4096 0) (replicate {A = ℕ} 16 0) (length-replicate {A = ℕ} 4096 0) (length-replicate {A = ℕ} 16 0) (c .before .before .before .before .before .before .read-image .ensures .0) (c .before .before .rows .given .0 .0) (c .before .before .rows .given .0 .1 .0) (c .before .before .rows .given .0 .1 .1 .0) (c .before .before .rows .given .1) (c .before .before .before .before .before .before .read-image .last .1 .1 .1 .0) (c .before .before .before .before .before .before .read-image .ensures .1))
+    (part-of-cells (a .image .now) (λ i. omega (arith, c .before .before .before .before .before .before .before .before .before .before .before .shared-slice-known .given i)) (c .before .before .before .before .before .before .before .before .before .winch .result) (c .before .before .before .before .before .before .before .before .before .winch .ensures) (replicate {A = ℕ} 4096 0) (replicate {A = ℕ} 16 0) (length-replicate {A = ℕ} 4096 0) (length-replicate {A = ℕ} 16 0) (c .before .before .before .before .before .before .read-within .ensures .0) (c .before .before .rows .given .0 .0) (c .before .before .rows .given .0 .1 .0) (c .before .before .rows .given .0 .1 .1 .0) (c .before .before .rows .given .1) (c .before .before .before .before .before .before .read-within .last .1 .1 .1 .0) (c .before .before .before .before .before .before .read-within .ensures .1))
 
 slice-aggregate-write-reduction : tie.Need-slice-aggregate-write-reduction
 slice-aggregate-write-reduction c =
     let a = c .before .before .before .before .before .before .before .before .before .before .before .before .before .args in
-    sym (length-take-le _ (c .before .before .before .before .before .before .before .read-image .last .1 .1 .1 .0) (part-of-cells (a .image .now) (λ i. omega (arith, c .before .before .before .before .before .before .before .before .before .before .before .before .shared-slice-known .given i)) (c .before .before .before .before .before .before .before .before .before .before .winch .result) (c .before .before .before .before .before .before .before .before .before .before .winch .ensures) (replicate {A = ℕ} 4096 0) (replicate {A = ℕ} 16 0) (length-replicate {A = ℕ} 4096 0) (length-replicate {A = ℕ} 16 0) (c .before .before .before .before .before .before .before .read-image .ensures .0) (c .before .before .before .rows .given .0 .0) (c .before .before .before .rows .given .0 .1 .0) (c .before .before .before .rows .given .0 .1 .1 .0) (c .before .before .before .rows .given .1) (c .before .before .before .before .before .before .before .read-image .last .1 .1 .1 .0) (c .before .before .before .before .before .before .before .read-image .ensures .1)))
+    sym (length-take-le _ (c .before .before .before .before .before .before .before .read-within .last .1 .1 .1 .0) (part-of-cells (a .image .now) (λ i. omega (arith, c .before .before .before .before .before .before .before .before .before .before .before .before .shared-slice-known .given i)) (c .before .before .before .before .before .before .before .before .before .before .winch .result) (c .before .before .before .before .before .before .before .before .before .before .winch .ensures) (replicate {A = ℕ} 4096 0) (replicate {A = ℕ} 16 0) (length-replicate {A = ℕ} 4096 0) (length-replicate {A = ℕ} 16 0) (c .before .before .before .before .before .before .before .read-within .ensures .0) (c .before .before .before .rows .given .0 .0) (c .before .before .before .rows .given .0 .1 .0) (c .before .before .before .rows .given .0 .1 .1 .0) (c .before .before .before .rows .given .1) (c .before .before .before .before .before .before .before .read-within .last .1 .1 .1 .0) (c .before .before .before .before .before .before .before .read-within .ensures .1)))
 
 array-share-prefix-marks : tie.Need-array-share-prefix-marks
 array-share-prefix-marks c =
     let a = c .before .before .before .before .before .before .before .before .before .before .before .before .before .args in
-    (part-of-marks (a .image .now) (λ i. omega (arith, c .before .before .before .before .before .before .before .before .before .before .before .before .shared-slice-known .given i)) (c .before .before .before .before .before .before .before .before .before .before .winch .result) (c .before .before .before .before .before .before .before .before .before .before .winch .ensures) (replicate {A = ℕ} 4096 0) (replicate {A = ℕ} 16 0) (length-replicate {A = ℕ} 4096 0) (length-replicate {A = ℕ} 16 0) (c .before .before .before .before .before .before .before .read-image .ensures .0) (c .before .before .before .rows .given .0 .0) (c .before .before .before .rows .given .0 .1 .0) (c .before .before .before .rows .given .0 .1 .1 .0) (c .before .before .before .rows .given .1) (c .before .before .before .before .before .before .before .read-image .last .1 .1 .1 .1 .0) (c .before .before .before .before .before .before .before .read-image .ensures .2) (c .before .mark-bytes .ensures))
+    (part-of-marks (a .image .now) (λ i. omega (arith, c .before .before .before .before .before .before .before .before .before .before .before .before .shared-slice-known .given i)) (c .before .before .before .before .before .before .before .before .before .before .winch .result) (c .before .before .before .before .before .before .before .before .before .before .winch .ensures) (replicate {A = ℕ} 4096 0) (replicate {A = ℕ} 16 0) (length-replicate {A = ℕ} 4096 0) (length-replicate {A = ℕ} 16 0) (c .before .before .before .before .before .before .before .read-within .ensures .0) (c .before .before .before .rows .given .0 .0) (c .before .before .before .rows .given .0 .1 .0) (c .before .before .before .rows .given .0 .1 .1 .0) (c .before .before .before .rows .given .1) (c .before .before .before .before .before .before .before .read-within .last .1 .1 .1 .1 .0) (c .before .before .before .before .before .before .before .read-within .ensures .2) (c .before .mark-bytes .ensures))
 
 slice-aggregate-write-reduction-2 : tie.Need-slice-aggregate-write-reduction-2
 slice-aggregate-write-reduction-2 c =
     let a = c .before .before .before .before .before .before .before .before .before .before .before .before .before .before .args in
-    sym (length-take-le _ (c .before .before .before .before .before .before .before .before .read-image .last .1 .1 .1 .1 .0) (part-of-marks (a .image .now) (λ i. omega (arith, c .before .before .before .before .before .before .before .before .before .before .before .before .before .shared-slice-known .given i)) (c .before .before .before .before .before .before .before .before .before .before .before .winch .result) (c .before .before .before .before .before .before .before .before .before .before .before .winch .ensures) (replicate {A = ℕ} 4096 0) (replicate {A = ℕ} 16 0) (length-replicate {A = ℕ} 4096 0) (length-replicate {A = ℕ} 16 0) (c .before .before .before .before .before .before .before .before .read-image .ensures .0) (c .before .before .before .before .rows .given .0 .0) (c .before .before .before .before .rows .given .0 .1 .0) (c .before .before .before .before .rows .given .0 .1 .1 .0) (c .before .before .before .before .rows .given .1) (c .before .before .before .before .before .before .before .before .read-image .last .1 .1 .1 .1 .0) (c .before .before .before .before .before .before .before .before .read-image .ensures .2) (c .before .before .mark-bytes .ensures)))
+    sym (length-take-le _ (c .before .before .before .before .before .before .before .before .read-within .last .1 .1 .1 .1 .0) (part-of-marks (a .image .now) (λ i. omega (arith, c .before .before .before .before .before .before .before .before .before .before .before .before .before .shared-slice-known .given i)) (c .before .before .before .before .before .before .before .before .before .before .before .winch .result) (c .before .before .before .before .before .before .before .before .before .before .before .winch .ensures) (replicate {A = ℕ} 4096 0) (replicate {A = ℕ} 16 0) (length-replicate {A = ℕ} 4096 0) (length-replicate {A = ℕ} 16 0) (c .before .before .before .before .before .before .before .before .read-within .ensures .0) (c .before .before .before .before .rows .given .0 .0) (c .before .before .before .before .rows .given .0 .1 .0) (c .before .before .before .before .rows .given .0 .1 .1 .0) (c .before .before .before .before .rows .given .1) (c .before .before .before .before .before .before .before .before .read-within .last .1 .1 .1 .1 .0) (c .before .before .before .before .before .before .before .before .read-within .ensures .2) (c .before .before .mark-bytes .ensures)))
 
 write-reduction-requires : tie.Need-write-reduction-requires
 write-reduction-requires c κs =
     let a = c .before .before .before .before .before .before .before .before .before .before .before .before .before .before .before .args in
-    let v = taken-valid (a .image .now) (λ i. omega (arith, c .before .before .before .before .before .before .before .before .before .before .before .before .before .before .shared-slice-known .given i)) (c .before .before .before .before .before .before .before .before .before .before .before .before .winch .result) (c .before .before .before .before .before .before .before .before .before .before .before .before .winch .ensures) (replicate {A = ℕ} 4096 0) (replicate {A = ℕ} 16 0) (length-replicate {A = ℕ} 4096 0) (length-replicate {A = ℕ} 16 0) (c .before .before .before .before .before .before .before .before .before .read-image .ensures .0) (c .before .before .before .before .before .rows .given .0 .0) (c .before .before .before .before .before .rows .given .0 .1 .0) (c .before .before .before .before .before .rows .given .0 .1 .1 .0) (c .before .before .before .before .before .rows .given .1) in
-    (subst Valid (sym (taken-table (a .image .now) (λ i. omega (arith, c .before .before .before .before .before .before .before .before .before .before .before .before .before .before .shared-slice-known .given i)) (c .before .before .before .before .before .before .before .before .before .before .before .before .winch .result) (c .before .before .before .before .before .before .before .before .before .before .before .before .winch .ensures) (replicate {A = ℕ} 4096 0) (replicate {A = ℕ} 16 0) (length-replicate {A = ℕ} 4096 0) (length-replicate {A = ℕ} 16 0) (c .before .before .before .before .before .before .before .before .before .read-image .ensures .0) (c .before .before .before .before .before .rows .given .0 .0) (c .before .before .before .before .before .rows .given .0 .1 .0) (c .before .before .before .before .before .rows .given .0 .1 .1 .0) (c .before .before .before .before .before .rows .given .1) (c .before .before .before .before .before .before .before .before .before .read-image .last .1 .1 .1 .0) (c .before .before .before .before .before .before .before .before .before .read-image .last .1 .1 .1 .1 .0) (c .before .before .before .mark-bytes .result) (c .before .before .before .before .before .before .before .before .before .read-image .ensures .1) (c .before .before .before .before .before .before .before .before .before .read-image .ensures .2) (c .before .before .before .mark-bytes .ensures))) (v .0), v .1)
+    let v = taken-valid (a .image .now) (λ i. omega (arith, c .before .before .before .before .before .before .before .before .before .before .before .before .before .before .shared-slice-known .given i)) (c .before .before .before .before .before .before .before .before .before .before .before .before .winch .result) (c .before .before .before .before .before .before .before .before .before .before .before .before .winch .ensures) (replicate {A = ℕ} 4096 0) (replicate {A = ℕ} 16 0) (length-replicate {A = ℕ} 4096 0) (length-replicate {A = ℕ} 16 0) (c .before .before .before .before .before .before .before .before .before .read-within .ensures .0) (c .before .before .before .before .before .rows .given .0 .0) (c .before .before .before .before .before .rows .given .0 .1 .0) (c .before .before .before .before .before .rows .given .0 .1 .1 .0) (c .before .before .before .before .before .rows .given .1) in
+    (subst Valid (sym (taken-table (a .image .now) (λ i. omega (arith, c .before .before .before .before .before .before .before .before .before .before .before .before .before .before .shared-slice-known .given i)) (c .before .before .before .before .before .before .before .before .before .before .before .before .winch .result) (c .before .before .before .before .before .before .before .before .before .before .before .before .winch .ensures) (replicate {A = ℕ} 4096 0) (replicate {A = ℕ} 16 0) (length-replicate {A = ℕ} 4096 0) (length-replicate {A = ℕ} 16 0) (c .before .before .before .before .before .before .before .before .before .read-within .ensures .0) (c .before .before .before .before .before .rows .given .0 .0) (c .before .before .before .before .before .rows .given .0 .1 .0) (c .before .before .before .before .before .rows .given .0 .1 .1 .0) (c .before .before .before .before .before .rows .given .1) (c .before .before .before .before .before .before .before .before .before .read-within .last .1 .1 .1 .0) (c .before .before .before .before .before .before .before .before .before .read-within .last .1 .1 .1 .1 .0) (c .before .before .before .mark-bytes .result) (c .before .before .before .before .before .before .before .before .before .read-within .ensures .1) (c .before .before .before .before .before .before .before .before .before .read-within .ensures .2) (c .before .before .before .mark-bytes .ensures))) (v .0), v .1)
 
 same-length : tie.Need-same-length
 same-length c = search needs
@@ -79,7 +79,7 @@ returns : tie.Need-returns
 returns c =
     let a = c .before .before .before .before .before .before .before .before .before .before .before .before .before .before .before .args in
     let w = c .before .before .write-refusal .ensures in
-    let e = refused-text (a .image .now) (λ i. omega (arith, c .before .before .before .before .before .before .before .before .before .before .before .before .before .before .shared-slice-known .given i)) (c .before .before .before .before .before .before .before .before .before .before .before .before .winch .result) (c .before .before .before .before .before .before .before .before .before .before .before .before .winch .ensures) (replicate {A = ℕ} 4096 0) (replicate {A = ℕ} 16 0) (length-replicate {A = ℕ} 4096 0) (length-replicate {A = ℕ} 16 0) (c .before .before .before .before .before .before .before .before .before .read-image .ensures .0) (offsetOf (a .offset)) (c .before .before .before .before .before .number .given .0 .0) (c .before .before .before .before .before .number .given .0 .1 .0) (c .before .before .before .before .before .number .given .1) in
+    let e = refused-text (a .image .now) (λ i. omega (arith, c .before .before .before .before .before .before .before .before .before .before .before .before .before .before .shared-slice-known .given i)) (c .before .before .before .before .before .before .before .before .before .before .before .before .winch .result) (c .before .before .before .before .before .before .before .before .before .before .before .before .winch .ensures) (replicate {A = ℕ} 4096 0) (replicate {A = ℕ} 16 0) (length-replicate {A = ℕ} 4096 0) (length-replicate {A = ℕ} 16 0) (c .before .before .before .before .before .before .before .before .before .read-within .ensures .0) (offsetOf (a .offset)) (c .before .before .before .before .before .number .given .0 .0) (c .before .before .before .before .before .number .given .0 .1 .0) (c .before .before .before .before .before .number .given .1) in
     (w .0 ∙ ap (filled (a .out .now)) e, w .1 ∙ ap (λ (t : List ℕ). min (length t) (length (a .out .now))) e)
 
 same-length-2 : tie.Need-same-length-2
@@ -89,7 +89,7 @@ returns-2 : tie.Need-returns-2
 returns-2 c =
     let a = c .before .before .before .before .before .before .before .before .before .before .before .before .before .before .before .before .before .before .args in
     let w = c .before .before .write-reduction .ensures in
-    let e = ap (reductionText (offsetOf (a .offset))) (taken-table (a .image .now) (λ i. omega (arith, c .before .before .before .before .before .before .before .before .before .before .before .before .before .before .before .before .before .shared-slice-known .given i)) (c .before .before .before .before .before .before .before .before .before .before .before .before .before .before .before .winch .result) (c .before .before .before .before .before .before .before .before .before .before .before .before .before .before .before .winch .ensures) (replicate {A = ℕ} 4096 0) (replicate {A = ℕ} 16 0) (length-replicate {A = ℕ} 4096 0) (length-replicate {A = ℕ} 16 0) (c .before .before .before .before .before .before .before .before .before .before .before .before .read-image .ensures .0) (c .before .before .before .before .before .before .before .before .rows .given .0 .0) (c .before .before .before .before .before .before .before .before .rows .given .0 .1 .0) (c .before .before .before .before .before .before .before .before .rows .given .0 .1 .1 .0) (c .before .before .before .before .before .before .before .before .rows .given .1) (c .before .before .before .before .before .before .before .before .before .before .before .before .read-image .last .1 .1 .1 .0) (c .before .before .before .before .before .before .before .before .before .before .before .before .read-image .last .1 .1 .1 .1 .0) (c .before .before .before .before .before .before .mark-bytes .result) (c .before .before .before .before .before .before .before .before .before .before .before .before .read-image .ensures .1) (c .before .before .before .before .before .before .before .before .before .before .before .before .read-image .ensures .2) (c .before .before .before .before .before .before .mark-bytes .ensures)) ∙ taken-text (a .image .now) (λ i. omega (arith, c .before .before .before .before .before .before .before .before .before .before .before .before .before .before .before .before .before .shared-slice-known .given i)) (c .before .before .before .before .before .before .before .before .before .before .before .before .before .before .before .winch .result) (c .before .before .before .before .before .before .before .before .before .before .before .before .before .before .before .winch .ensures) (replicate {A = ℕ} 4096 0) (replicate {A = ℕ} 16 0) (length-replicate {A = ℕ} 4096 0) (length-replicate {A = ℕ} 16 0) (c .before .before .before .before .before .before .before .before .before .before .before .before .read-image .ensures .0) (c .before .before .before .before .before .before .before .before .rows .given .0 .0) (c .before .before .before .before .before .before .before .before .rows .given .0 .1 .0) (c .before .before .before .before .before .before .before .before .rows .given .0 .1 .1 .0) (c .before .before .before .before .before .before .before .before .rows .given .1) (offsetOf (a .offset)) in
+    let e = ap (reductionText (offsetOf (a .offset))) (taken-table (a .image .now) (λ i. omega (arith, c .before .before .before .before .before .before .before .before .before .before .before .before .before .before .before .before .before .shared-slice-known .given i)) (c .before .before .before .before .before .before .before .before .before .before .before .before .before .before .before .winch .result) (c .before .before .before .before .before .before .before .before .before .before .before .before .before .before .before .winch .ensures) (replicate {A = ℕ} 4096 0) (replicate {A = ℕ} 16 0) (length-replicate {A = ℕ} 4096 0) (length-replicate {A = ℕ} 16 0) (c .before .before .before .before .before .before .before .before .before .before .before .before .read-within .ensures .0) (c .before .before .before .before .before .before .before .before .rows .given .0 .0) (c .before .before .before .before .before .before .before .before .rows .given .0 .1 .0) (c .before .before .before .before .before .before .before .before .rows .given .0 .1 .1 .0) (c .before .before .before .before .before .before .before .before .rows .given .1) (c .before .before .before .before .before .before .before .before .before .before .before .before .read-within .last .1 .1 .1 .0) (c .before .before .before .before .before .before .before .before .before .before .before .before .read-within .last .1 .1 .1 .1 .0) (c .before .before .before .before .before .before .mark-bytes .result) (c .before .before .before .before .before .before .before .before .before .before .before .before .read-within .ensures .1) (c .before .before .before .before .before .before .before .before .before .before .before .before .read-within .ensures .2) (c .before .before .before .before .before .before .mark-bytes .ensures)) ∙ taken-text (a .image .now) (λ i. omega (arith, c .before .before .before .before .before .before .before .before .before .before .before .before .before .before .before .before .before .shared-slice-known .given i)) (c .before .before .before .before .before .before .before .before .before .before .before .before .before .before .before .winch .result) (c .before .before .before .before .before .before .before .before .before .before .before .before .before .before .before .winch .ensures) (replicate {A = ℕ} 4096 0) (replicate {A = ℕ} 16 0) (length-replicate {A = ℕ} 4096 0) (length-replicate {A = ℕ} 16 0) (c .before .before .before .before .before .before .before .before .before .before .before .before .read-within .ensures .0) (c .before .before .before .before .before .before .before .before .rows .given .0 .0) (c .before .before .before .before .before .before .before .before .rows .given .0 .1 .0) (c .before .before .before .before .before .before .before .before .rows .given .0 .1 .1 .0) (c .before .before .before .before .before .before .before .before .rows .given .1) (offsetOf (a .offset)) in
     (w .0 ∙ ap (filled (a .out .now)) e, w .1 ∙ ap (λ (t : List ℕ). min (length t) (length (a .out .now))) e)
 
 pub write-image-text-spec : {M : Type 1} → statement M
@@ -97,9 +97,9 @@ write-image-text-spec =
     tie.close
     (tie.spec
     winch-requires
-    slice-aggregate-read-image
-    slice-aggregate-read-image-2
-    read-image-requires
+    slice-aggregate-read-within
+    slice-aggregate-read-within-2
+    read-within-requires
     enum-known-number
     write-refusal-requires
     enum-known-rows

@@ -3,19 +3,10 @@ use borrow.Author.Needs.{needs}
 use Rattle.distances.proofs.begin.Statement.{statement}
 use Rattle.distances.proofs.begin.Tie as tie
 
-row-start-requires : tie.Need-row-start-requires
-row-start-requires c κs = search needs
-
-clear-requires : tie.Need-clear-requires
-clear-requires c κs = search needs
-
 settle-requires : tie.Need-settle-requires
 settle-requires c κs =
     let k = c .before .before .before .clear in
     clear-begun (c .before .before .before .before .before .before .before .before .before .args .scratch .now) (k .last .0) _ (c .before .before .before .before .before .before .before .before .before .pre) (c .before .before .before .before .row-start .ensures) (k .ensures)
-
-same-length : tie.Need-same-length
-same-length c = search needs
 
 returns : tie.Need-returns
 returns c =
@@ -24,4 +15,4 @@ returns c =
 
 pub begin-spec : {M : Type 1} → statement M
 begin-spec =
-    tie.close (tie.spec row-start-requires clear-requires settle-requires same-length returns)
+    tie.close (tie.spec (λ c κs. search needs) (λ c κs. search needs) settle-requires (λ c. search needs) returns)

@@ -4,9 +4,6 @@ use borrow.Author.Needs.{needs}
 use Rattle.distances.proofs.distances.Statement.{statement}
 use Rattle.distances.proofs.distances.Tie as tie
 
-workable-requires : tie.Need-workable-requires
-workable-requires c κs = search needs
-
 returns : tie.Need-returns
 returns c =
     let a = c .before .before .before .before .before .args in
@@ -27,9 +24,6 @@ search-requires c κs =
     let a = c .before .before .before .before .before .before .args in
     given (a .mask) (a .rows) (a .events) (a .start) (a .cells .now) (a .marks .now) (a .scratch .now) _ (c .before .before .workable .ensures) (c .before .if1 .left)
 
-same-length : tie.Need-same-length
-same-length c = search needs
-
 returns-2 : tie.Need-returns-2
 returns-2 c =
     let a = c .before .before .before .before .before .before .before .before .before .args in
@@ -39,10 +33,10 @@ pub distances-spec : {M : Type 1} → statement M
 distances-spec =
     tie.close
     (tie.spec
-    workable-requires
+    (λ c κs. search needs)
     returns
     cast-search
     cast-search-2
     search-requires
-    same-length
+    (λ c. search needs)
     returns-2)

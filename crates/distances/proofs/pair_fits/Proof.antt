@@ -25,18 +25,6 @@ abbrev μ-loop : tie.MeasureT-loop
 seen : (l : List ℕ) {i q a : ℕ} → i ≡ q → a ≡ markOf l i → a ≡ markOf l q
 seen l e f = f ∙ ap (markOf l) e
 
-wide-requires : tie.Need-wide-requires Inv-loop μ-loop
-wide-requires c κs = search needs
-
-mark-requires : tie.Need-mark-requires Inv-loop μ-loop
-mark-requires c κs = search needs
-
-wide-requires-2 : tie.Need-wide-requires-2 Inv-loop μ-loop
-wide-requires-2 c κs = search needs
-
-mark-requires-2 : tie.Need-mark-requires-2 Inv-loop μ-loop
-mark-requires-2 c κs = search needs
-
 returns : tie.Need-returns Inv-loop μ-loop
 returns c =
     let m = c .before .before .before .before .before .before .before .before .before .args .marks .now in
@@ -49,9 +37,6 @@ loop-holds c = (
   λ a h. absurd (omega arith),
 )
 
-event-fits-requires : tie.Need-event-fits-requires Inv-loop μ-loop
-event-fits-requires c κs = search needs
-
 returns-2 : tie.Need-returns-2 Inv-loop μ-loop
 returns-2 c =
     record {
@@ -59,12 +44,6 @@ returns-2 c =
       fails = λ e f.
           not-le-of-lt (leb-false _ _ (sym (c .before .event-fits .ensures) ∙ not-true _ (c .if3 .taken))) (f .targets (c .before .before .before .loop .event) (omega arith));
     }
-
-add-event : tie.Need-add-event Inv-loop μ-loop
-add-event c = omega arith
-
-loop-less : tie.Need-loop-less Inv-loop μ-loop
-loop-less c = omega arith
 
 loop-again : tie.Need-loop-again Inv-loop μ-loop
 loop-again c = (
@@ -86,15 +65,15 @@ pair-fits-spec =
     (tie.spec
     Inv-loop
     μ-loop
-    wide-requires
-    mark-requires
-    wide-requires-2
-    mark-requires-2
+    (λ c κs. search needs)
+    (λ c κs. search needs)
+    (λ c κs. search needs)
+    (λ c κs. search needs)
     returns
     loop-holds
-    event-fits-requires
+    (λ c κs. search needs)
     returns-2
-    add-event
-    loop-less
+    (λ c. omega arith)
+    (λ c. omega arith)
     loop-again
     returns-3)

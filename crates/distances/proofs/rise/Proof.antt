@@ -3,22 +3,10 @@ use borrow.Author.Needs.{needs}
 use Rattle.distances.proofs.rise.Statement.{statement}
 use Rattle.distances.proofs.rise.Tie as tie
 
-row-start-requires : tie.Need-row-start-requires
-row-start-requires c κs = search needs
-
-lower-requires : tie.Need-lower-requires
-lower-requires c κs = search needs
-
 settle-requires : tie.Need-settle-requires
 settle-requires c κs =
     let w = c .before .before .before .lower in
     rise-begun (c .before .before .before .before .before .before .before .before .before .args .level) _ (c .before .before .before .before .before .before .before .before .before .args .scratch .now) (w .last .0) (c .before .before .before .before .before .before .before .before .before .pre) (c .before .before .before .before .before .row-start .ensures) (w .ensures)
-
-some-requires : tie.Need-some-requires
-some-requires c κs = search needs
-
-same-length : tie.Need-same-length
-same-length c = search needs
 
 returns : tie.Need-returns
 returns c =
@@ -29,4 +17,4 @@ returns c =
 pub rise-spec : {M : Type 1} → statement M
 rise-spec =
     tie.close
-    (tie.spec row-start-requires lower-requires settle-requires some-requires same-length returns)
+    (tie.spec (λ c κs. search needs) (λ c κs. search needs) settle-requires (λ c κs. search needs) (λ c. search needs) returns)

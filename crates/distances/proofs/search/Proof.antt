@@ -35,12 +35,6 @@ unfolding distanceCells
 returns c =
     rising-early (c .before .before .before .before .before .before .before .before .before .before .before .before .before .before .pre) (c .before .before .before .before .before .before .before .before .before .begin .ensures) (c .before .before .before .before .before .before .loop .inv) (mask-light (c .before .before .before .before .before .before .before .before .before .before .before .before .before .before .args .mask) (tableOf (c .before .before .before .before .before .before .before .before .before .before .before .before .before .before .args .rows) (c .before .before .before .before .before .before .before .before .before .before .before .before .before .before .args .events) 0 (c .before .before .before .before .before .before .before .before .before .before .before .before .before .before .args .cells .now) (c .before .before .before .before .before .before .before .before .before .before .before .before .before .before .args .marks .now))) (c .before .before .before .before .before .loop-test .taken) (c .before .before .before .rise .ensures) (not-true _ (c .if1 .taken))
 
-add-level : tie.Need-add-level Inv-loop μ-loop
-add-level c = omega arith
-
-loop-less : tie.Need-loop-less Inv-loop μ-loop
-loop-less c = omega arith
-
 loop-again : tie.Need-loop-again Inv-loop μ-loop
 loop-again c =
     rising-next (c .before .before .before .before .before .before .before .before .before .before .before .before .before .before .pre) (c .before .before .before .before .before .before .before .before .before .begin .ensures) (c .before .before .before .before .before .before .loop .inv) (c .before .before .before .before .before .loop-test .taken) (c .before .before .before .rise .ensures)
@@ -64,8 +58,8 @@ search-spec =
     rise-requires
     same-length
     returns
-    add-level
-    loop-less
+    (λ c. omega arith)
+    (λ c. omega arith)
     loop-again
     same-length-2
     returns-2)

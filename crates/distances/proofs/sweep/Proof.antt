@@ -18,27 +18,15 @@ loop-holds c = (omega arith, turned-none (c .before .before .before .pre) (λ x 
 sweep-row-requires : tie.Need-sweep-row-requires Inv-loop μ-loop
 sweep-row-requires c κs = (begun-moved (c .before .before .before .before .before .before .pre) (c .before .before .loop .inv .1 .moved), c .before .loop-test .taken)
 
-add-q : tie.Need-add-q Inv-loop μ-loop
-add-q c = omega arith
-
-loop-less : tie.Need-loop-less Inv-loop μ-loop
-loop-less c = omega arith
-
 loop-again : tie.Need-loop-again Inv-loop μ-loop
 loop-again c =
     let l = c .before .before .before .before .before .before .loop in
     (omega arith, rows-hit (l .q) (l .inv .1) (c .before .before .before .sweep-row .ensures) (c .if1 .taken))
 
-loop-less-2 : tie.Need-loop-less-2 Inv-loop μ-loop
-loop-less-2 c = omega arith
-
 loop-again-2 : tie.Need-loop-again-2 Inv-loop μ-loop
 loop-again-2 c =
     let l = c .before .before .before .before .before .before .loop in
     (omega arith, rows-miss (l .q) (l .inv .1) (c .before .before .before .sweep-row .ensures) (c .if1 .left))
-
-same-length : tie.Need-same-length Inv-loop μ-loop
-same-length c = omega arith
 
 returns : tie.Need-returns Inv-loop μ-loop
 returns c = turned-map (c .before .loop .inv .1) (λ h x l. h x (omega arith))
@@ -51,10 +39,10 @@ sweep-spec =
     μ-loop
     loop-holds
     sweep-row-requires
-    add-q
-    loop-less
+    (λ c. omega arith)
+    (λ c. omega arith)
     loop-again
-    loop-less-2
+    (λ c. omega arith)
     loop-again-2
-    same-length
+    (λ c. omega arith)
     returns)

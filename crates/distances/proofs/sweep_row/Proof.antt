@@ -19,27 +19,15 @@ visit-requires : tie.Need-visit-requires Inv-loop μ-loop
 visit-requires c κs =
     (begun-moved (c .before .before .before .before .before .before .pre .0) (c .before .before .loop .inv .1 .moved), (c .before .before .before .before .before .before .pre .1, c .before .loop-test .taken))
 
-add-p : tie.Need-add-p Inv-loop μ-loop
-add-p c = omega arith
-
-loop-less : tie.Need-loop-less Inv-loop μ-loop
-loop-less c = omega arith
-
 loop-again : tie.Need-loop-again Inv-loop μ-loop
 loop-again c =
     let l = c .before .before .before .before .before .before .loop in
     (omega arith, row-hit (c .before .before .before .before .before .before .before .before .before .before .args .q) (l .p) (l .inv .1) (c .before .before .before .visit .ensures) (c .if1 .taken))
 
-loop-less-2 : tie.Need-loop-less-2 Inv-loop μ-loop
-loop-less-2 c = omega arith
-
 loop-again-2 : tie.Need-loop-again-2 Inv-loop μ-loop
 loop-again-2 c =
     let l = c .before .before .before .before .before .before .loop in
     (omega arith, row-miss (c .before .before .before .before .before .before .before .before .before .before .args .q) (l .p) (l .inv .1) (c .before .before .before .visit .ensures) (c .if1 .left))
-
-same-length : tie.Need-same-length Inv-loop μ-loop
-same-length c = omega arith
 
 returns : tie.Need-returns Inv-loop μ-loop
 returns c = turned-map (c .before .loop .inv .1) (λ h x l. h x (omega arith))
@@ -52,10 +40,10 @@ sweep-row-spec =
     μ-loop
     loop-holds
     visit-requires
-    add-p
-    loop-less
+    (λ c. omega arith)
+    (λ c. omega arith)
     loop-again
-    loop-less-2
+    (λ c. omega arith)
     loop-again-2
-    same-length
+    (λ c. omega arith)
     returns)

@@ -8,20 +8,8 @@ use borrow.Author.Needs.{needs}
 use Rattle.distances.proofs.visit.Statement.{statement}
 use Rattle.distances.proofs.visit.Tie as tie
 
-row-start-requires : tie.Need-row-start-requires
-row-start-requires c κs = search needs
-
-wide-requires : tie.Need-wide-requires
-wide-requires c κs = search needs
-
 add-at : tie.Need-add-at
 add-at c = omega (arith, triangle-bound (c .before .before .before .before .before .args .q) (omega arith))
-
-cell-requires : tie.Need-cell-requires
-cell-requires c κs = search needs
-
-same-length : tie.Need-same-length
-same-length c = search needs
 
 returns : tie.Need-returns
 returns c =
@@ -29,22 +17,10 @@ returns c =
     let e : c .before .before .before .before .row-start .result + c .before .before .before .wide .result ≡ triangle (a .q) + a .p = omega (arith, c .before .before .before .before .row-start .ensures, c .before .before .before .wide .ensures) in
     visit-other (c .before .before .before .before .before .before .before .before .pre .0) (a .q) (a .p) _ _ e (c .before .cell .ensures) (c .before .before .before .before .before .before .before .before .pre .1 .1) (c .if1 .taken)
 
-pair-fits-requires : tie.Need-pair-fits-requires
-pair-fits-requires c κs = search needs
-
-same-length-2 : tie.Need-same-length-2
-same-length-2 c = search needs
-
 returns-2 : tie.Need-returns-2
 returns-2 c =
     let a = c .before .before .before .before .before .before .before .before .before .before .before .args in
     visit-fits (c .before .before .before .before .before .before .before .before .before .before .before .pre .0) (a .q) (a .p) (c .before .pair-fits .ensures .holds (c .if2 .taken))
-
-put-requires : tie.Need-put-requires
-put-requires c κs = search needs
-
-same-length-3 : tie.Need-same-length-3
-same-length-3 c = search needs
 
 returns-3 : tie.Need-returns-3
 returns-3 c =
@@ -56,15 +32,15 @@ pub visit-spec : {M : Type 1} → statement M
 visit-spec =
     tie.close
     (tie.spec
-    row-start-requires
-    wide-requires
+    (λ c κs. search needs)
+    (λ c κs. search needs)
     add-at
-    cell-requires
-    same-length
+    (λ c κs. search needs)
+    (λ c. search needs)
     returns
-    pair-fits-requires
-    same-length-2
+    (λ c κs. search needs)
+    (λ c. search needs)
     returns-2
-    put-requires
-    same-length-3
+    (λ c κs. search needs)
+    (λ c. search needs)
     returns-3)

@@ -6,19 +6,10 @@ use borrow.Author.Needs.{needs}
 use Rattle.folding.proofs.fold_rows.Statement.{statement}
 use Rattle.folding.proofs.fold_rows.Tie as tie
 
-distances-requires : tie.Need-distances-requires
-distances-requires c κs = search needs
-
-same-length : tie.Need-same-length
-same-length c = search needs
-
 returns : tie.Need-returns
 returns c =
     let a = c .before .before .before .before .before .before .before .before .args in
     refuses (a .mask) (offsetOf (a .offset)) (tableOf (a .rows) (a .events) (a .start) (a .cells .now) (a .marks .now)) (a .scratch .now) (c .before .before .before .distances .result) (c .before .before .before .distances .ensures .0) (c .if1 .taken) (c .before .before .before .distances .last .1 .1 .1 .1 .1 .1 .0) (c .before .before .before .distances .ensures .1)
-
-depths-requires : tie.Need-depths-requires
-depths-requires c κs = search needs
 
 cast-n : tie.Need-cast-n
 cast-n c =
@@ -29,18 +20,6 @@ fold-all-requires : tie.Need-fold-all-requires
 fold-all-requires c κs =
     let a = c .before .before .before .before .before .before .before .before .before .before .before .before .before .args in
     room-after (a .mask) (offsetOf (a .offset)) (tableOf (a .rows) (a .events) (a .start) (a .cells .now) (a .marks .now)) (a .scratch .now) (works (a .mask) (offsetOf (a .offset)) (tableOf (a .rows) (a .events) (a .start) (a .cells .now) (a .marks .now)) (a .scratch .now) (c .before .before .before .before .before .before .before .before .distances .result) (c .before .before .before .before .before .before .before .before .distances .ensures .0) (c .before .before .before .before .before .if1 .left)) (c .before .before .before .before .before .before .before .before .distances .last .1 .1 .1 .1 .1 .1 .0) (c .before .before .before .depths .last .1 .1 .1 .1 .1 .1 .0) (c .before .before .before .before .before .before .before .before .distances .ensures .1) (c .before .before .before .depths .ensures .1)
-
-queue-at-requires : tie.Need-queue-at-requires
-queue-at-requires c κs = search needs
-
-folds-at-requires : tie.Need-folds-at-requires
-folds-at-requires c κs = search needs
-
-clear-requires : tie.Need-clear-requires
-clear-requires c κs = search needs
-
-same-length-2 : tie.Need-same-length-2
-same-length-2 c = search needs
 
 returns-2 : tie.Need-returns-2
 returns-2 c =
@@ -53,14 +32,14 @@ pub fold-rows-spec : {M : Type 1} → statement M
 fold-rows-spec =
     tie.close
     (tie.spec
-    distances-requires
-    same-length
+    (λ c κs. search needs)
+    (λ c. search needs)
     returns
-    depths-requires
+    (λ c κs. search needs)
     cast-n
     fold-all-requires
-    queue-at-requires
-    folds-at-requires
-    clear-requires
-    same-length-2
+    (λ c κs. search needs)
+    (λ c κs. search needs)
+    (λ c κs. search needs)
+    (λ c. search needs)
     returns-2)

@@ -6,18 +6,6 @@ use borrow.Author.Needs.{needs}
 use Rattle.follower.proofs.advance.Statement.{statement}
 use Rattle.follower.proofs.advance.Tie as tie
 
-checked-requires : tie.Need-checked-requires
-checked-requires c κs = search needs
-
-enum-known-number : tie.Need-enum-known-number
-enum-known-number c = search needs
-
-refused-requires : tie.Need-refused-requires
-refused-requires c κs = search needs
-
-enum-told : tie.Need-enum-told
-enum-told c = search needs
-
 -- Rules 1 to 4 are kept: the cells are rows * events.
 advance-within-requires : tie.Need-advance-within-requires
 advance-within-requires c κs =
@@ -43,10 +31,10 @@ pub advance-spec : {M : Type 1} → statement M
 advance-spec =
     tie.close
     (tie.spec
-    checked-requires
-    enum-known-number
-    refused-requires
-    enum-told
+    (λ c κs. search needs)
+    (λ c. search needs)
+    (λ c κs. search needs)
+    (λ c. search needs)
     advance-within-requires
     returns
     returns-2)

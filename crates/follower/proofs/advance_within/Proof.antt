@@ -6,14 +6,8 @@ use borrow.Author.Needs.{needs}
 use Rattle.follower.proofs.advance_within.Statement.{statement}
 use Rattle.follower.proofs.advance_within.Tie as tie
 
-refused-requires : tie.Need-refused-requires
-refused-requires c κs = search needs
-
 returns : tie.Need-returns
 returns c = rw (c .refused .ensures) (simp (le-leb _ _ (c .before .if1 .taken)))
-
-refused-requires-2 : tie.Need-refused-requires-2
-refused-requires-2 c κs = search needs
 
 returns-2 : tie.Need-returns-2
 returns-2 c = rw (c .refused2 .ensures) (simp (lt-leb _ _ (c .before .before .if1 .left), le-leb _ _ (c .before .if2 .taken)))
@@ -37,14 +31,8 @@ cast-if3 c =
     let a = c .before .before .before .before .before .args in
     omega (arith, c .shared-slice-known3 .given (a .row * a .events + a .event))
 
-refused-requires-3 : tie.Need-refused-requires-3
-refused-requires-3 c κs = search needs
-
 returns-3 : tie.Need-returns-3
 returns-3 c = rw (c .refused3 .ensures) (simp (lt-leb _ _ (c .before .before .before .before .if1 .left), lt-leb _ _ (c .before .before .before .if2 .left), le-leb _ _ (c .before .if3 .taken)))
-
-taken-requires : tie.Need-taken-requires
-taken-requires c κs = search needs
 
 returns-4 : tie.Need-returns-4
 returns-4 c = rw (c .taken .ensures .0, c .taken .ensures .1) (simp (lt-leb _ _ (c .before .before .before .before .if1 .left), lt-leb _ _ (c .before .before .before .if2 .left), lt-leb _ _ (c .before .if3 .left)))
@@ -53,16 +41,16 @@ pub advance-within-spec : {M : Type 1} → statement M
 advance-within-spec =
     tie.close
     (tie.spec
-    refused-requires
+    (λ c κs. search needs)
     returns
-    refused-requires-2
+    (λ c κs. search needs)
     returns-2
     mul-place
     add-place
     mul-target
     shared-slice-read-target
     cast-if3
-    refused-requires-3
+    (λ c κs. search needs)
     returns-3
-    taken-requires
+    (λ c κs. search needs)
     returns-4)

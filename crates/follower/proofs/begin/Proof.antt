@@ -6,15 +6,6 @@ use borrow.Author.Needs.{needs}
 use Rattle.follower.proofs.begin.Statement.{statement}
 use Rattle.follower.proofs.begin.Tie as tie
 
-checked-requires : tie.Need-checked-requires
-checked-requires c κs = search needs
-
-enum-known-number : tie.Need-enum-known-number
-enum-known-number c = search needs
-
-enum-told : tie.Need-enum-told
-enum-told c = search needs
-
 -- Rules 1 to 4 are kept: the start is one of at most 1,024 rows.
 cast-t10 : tie.Need-cast-t10
 cast-t10 c =
@@ -33,4 +24,4 @@ returns-2 c = rw (← c .before .before .checked .ensures, c .enum-told .given .
 
 pub begin-spec : {M : Type 1} → statement M
 begin-spec =
-    tie.close (tie.spec checked-requires enum-known-number enum-told cast-t10 returns returns-2)
+    tie.close (tie.spec (λ c κs. search needs) (λ c. search needs) (λ c. search needs) cast-t10 returns returns-2)

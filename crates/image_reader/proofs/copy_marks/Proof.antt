@@ -4,8 +4,7 @@ use native.Mathlib.Numerals.{add-one}
 use native.Mathlib.Omega.{arith}
 use lib.ListN.{length, getD, take, drop, length-set}
 use Rattle.tables.specs.Lists.{over}
-use Rattle.tables.proofs.Over.{over-none, over-next, over-all}
-use Rattle.images.proofs.Numbers.{part-length, part-at}
+use Rattle.tables.proofs.Over.{over-none, over-next, over-all, part-length, part-at}
 use Rattle.image_reader.proofs.copy_marks.Statement.{statement}
 use Rattle.image_reader.proofs.copy_marks.Tie as tie
 
@@ -17,21 +16,6 @@ abbrev μ-loop : tie.MeasureT-loop
 
 loop-holds : tie.Need-loop-holds Inv-loop μ-loop
 loop-holds c = (omega arith, sym (over-none (c .args .marks .now) 0), refl)
-
-add-marks : tie.Need-add-marks Inv-loop μ-loop
-add-marks c = omega arith
-
-shared-slice-read-marks : tie.Need-shared-slice-read-marks Inv-loop μ-loop
-shared-slice-read-marks c = omega arith
-
-slice-write-marks : tie.Need-slice-write-marks Inv-loop μ-loop
-slice-write-marks c = omega arith
-
-add-i : tie.Need-add-i Inv-loop μ-loop
-add-i c = omega arith
-
-loop-less : tie.Need-loop-less Inv-loop μ-loop
-loop-less c = omega arith
 
 loop-again : tie.Need-loop-again Inv-loop μ-loop
 loop-again c =
@@ -63,11 +47,11 @@ copy-marks-spec =
     Inv-loop
     μ-loop
     loop-holds
-    add-marks
-    shared-slice-read-marks
-    slice-write-marks
-    add-i
-    loop-less
+    (λ c. omega arith)
+    (λ c. omega arith)
+    (λ c. omega arith)
+    (λ c. omega arith)
+    (λ c. omega arith)
     loop-again
     same-length
     returns)

@@ -1,22 +1,11 @@
 use mathlib.Core.Path.{sym, _∙_}
 use borrow.Author.Tests.{lt-ltb, le-ltb}
+use Rattle.image_reader.specs.Read.{atMost}
 use Rattle.image_reader.specs.Sections.{sectionsRead}
 use Rattle.image_reader.proofs.Sections.{refuses-read, marks-got}
 use borrow.Author.Needs.{needs}
 use Rattle.image_reader.proofs.judge.Statement.{statement}
 use Rattle.image_reader.proofs.judge.Tie as tie
-
-marks-section-requires : tie.Need-marks-section-requires
-marks-section-requires c κs = search needs
-
-enum-known-marks : tie.Need-enum-known-marks
-enum-known-marks c = search needs
-
-enum-told : tie.Need-enum-told
-enum-told c = search needs
-
-refusal-requires : tie.Need-refusal-requires
-refusal-requires c κs = search needs
 
 returns : tie.Need-returns
 unfolding sectionsRead
@@ -25,32 +14,11 @@ returns c = refuses-read _ _ _ _ _ _ (c .before .before .before .marks-section .
 targets-section-requires : tie.Need-targets-section-requires
 targets-section-requires c κs =
     let a = c .before .before .before .before .before .args in
-    marks-got (a .limits) (a .small) (a .image .now) _ _ (sym (c .before .before .before .marks-section .ensures) ∙ c .before .marks .given .1)
-
-enum-known-targets : tie.Need-enum-known-targets
-enum-known-targets c = search needs
-
-enum-told-2 : tie.Need-enum-told-2
-enum-told-2 c = search needs
-
-refusal-requires-2 : tie.Need-refusal-requires-2
-refusal-requires-2 c κs = search needs
+    marks-got (a .limits) (atMost (a .small)) (a .image .now) _ _ (sym (c .before .before .before .marks-section .ensures) ∙ c .before .marks .given .1)
 
 returns-2 : tie.Need-returns-2
 unfolding sectionsRead
 returns-2 c = simp (sym (c .before .before .before .before .before .before .before .marks-section .ensures) ∙ c .before .before .before .before .before .marks .given .1) (refuses-read _ _ _ _ _ _ (c .before .before .before .targets-section .ensures) (c .before .enum-told2 .given .1) (c .refusal2 .ensures))
-
-start-section-requires : tie.Need-start-section-requires
-start-section-requires c κs = search needs
-
-enum-known-last : tie.Need-enum-known-last
-enum-known-last c = search needs
-
-enum-told-3 : tie.Need-enum-told-3
-enum-told-3 c = search needs
-
-refusal-requires-3 : tie.Need-refusal-requires-3
-refusal-requires-3 c κs = search needs
 
 returns-3 : tie.Need-returns-3
 unfolding sectionsRead
@@ -68,20 +36,20 @@ pub judge-spec : {M : Type 1} → statement M
 judge-spec =
     tie.close
     (tie.spec
-    marks-section-requires
-    enum-known-marks
-    enum-told
-    refusal-requires
+    (λ c κs. search needs)
+    (λ c. search needs)
+    (λ c. search needs)
+    (λ c κs. search needs)
     returns
     targets-section-requires
-    enum-known-targets
-    enum-told-2
-    refusal-requires-2
+    (λ c. search needs)
+    (λ c. search needs)
+    (λ c κs. search needs)
     returns-2
-    start-section-requires
-    enum-known-last
-    enum-told-3
-    refusal-requires-3
+    (λ c κs. search needs)
+    (λ c. search needs)
+    (λ c. search needs)
+    (λ c κs. search needs)
     returns-3
     returns-4
     returns-5)

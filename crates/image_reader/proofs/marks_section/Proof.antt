@@ -11,28 +11,13 @@ use borrow.Author.Needs.{needs}
 use Rattle.image_reader.proofs.marks_section.Statement.{statement}
 use Rattle.image_reader.proofs.marks_section.Tie as tie
 
-number-requires : tie.Need-number-requires
-number-requires c κs = search needs
-
-enum-known-count : tie.Need-enum-known-count
-enum-known-count c = search needs
-
-enum-told : tie.Need-enum-told
-enum-told c = search needs
-
 returns : tie.Need-returns
 unfolding marksSection
 returns c = refuses _ _ _ _ _ (c .before .before .number .ensures) (c .enum-told .given .1)
 
-beyond-requires : tie.Need-beyond-requires
-beyond-requires c κs = search needs
-
 returns-2 : tie.Need-returns-2
 unfolding marksSection
 returns-2 c = simp (sym (c .before .before .before .before .before .number .ensures) ∙ c .before .before .before .count .given .1, sym (c .before .beyond .ensures .0) ∙ c .if1 .taken)
-
-wide-requires : tie.Need-wide-requires
-wide-requires c κs = search needs
 
 returns-3 : tie.Need-returns-3
 unfolding marksSection
@@ -40,9 +25,6 @@ returns-3 c =
     let a = c .before .before .before .before .before .before .before .before .before .args in
     let g = c .before .before .before .before .before .count .given .0 in
     simp (sym (c .before .before .before .before .before .before .before .number .ensures) ∙ c .before .before .before .before .before .count .given .1, sym (c .before .before .before .beyond .ensures .0) ∙ c .before .before .if1 .left, lt-ltb (a .small) (g .0) (omega (arith, c .before .wide .ensures)))
-
-mark-bytes-requires : tie.Need-mark-bytes-requires
-mark-bytes-requires c κs = search needs
 
 add-end : tie.Need-add-end
 add-end c =
@@ -56,15 +38,6 @@ returns-4 c =
     let a = c .before .before .before .before .before .before .before .before .before .before .before .args in
     let g = c .before .before .before .before .before .before .before .count .given .0 in
     simp (sym (c .before .before .before .before .before .before .before .before .before .number .ensures) ∙ c .before .before .before .before .before .before .before .count .given .1, sym (c .before .before .before .before .before .beyond .ensures .0) ∙ c .before .before .before .before .if1 .left, le-ltb (a .small) (g .0) (omega (arith, c .before .before .before .wide .ensures)), lt-ltb (length (a .image .now)) (g .1 .0 + markBytes (g .0)) (omega (arith, c .before .mark-bytes .ensures)))
-
-add-last : tie.Need-add-last
-add-last c = search needs
-
-shared-slice-read-spare-set : tie.Need-shared-slice-read-spare-set
-shared-slice-read-spare-set c = search needs
-
-spare-set-requires : tie.Need-spare-set-requires
-spare-set-requires c κs = search needs
 
 returns-5 : tie.Need-returns-5
 unfolding marksSection
@@ -92,20 +65,20 @@ pub marks-section-spec : {M : Type 1} → statement M
 marks-section-spec =
     tie.close
     (tie.spec
-    number-requires
-    enum-known-count
-    enum-told
+    (λ c κs. search needs)
+    (λ c. search needs)
+    (λ c. search needs)
     returns
-    beyond-requires
+    (λ c κs. search needs)
     returns-2
-    wide-requires
+    (λ c κs. search needs)
     returns-3
-    mark-bytes-requires
+    (λ c κs. search needs)
     add-end
     returns-4
-    add-last
-    shared-slice-read-spare-set
-    spare-set-requires
+    (λ c. search needs)
+    (λ c. search needs)
+    (λ c κs. search needs)
     returns-5
     returns-6
     returns-7)

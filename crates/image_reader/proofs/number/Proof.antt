@@ -19,12 +19,6 @@ returns-2 c =
     let a = c .before .before .before .args in
     simp (lt-ltb (length (a .image .now)) (a .at + 2) (omega arith))
 
-word-requires : tie.Need-word-requires
-word-requires c κs = search needs
-
-add-t6 : tie.Need-add-t6
-add-t6 c = search needs
-
 returns-3 : tie.Need-returns-3
 unfolding numberSection
 returns-3 c =
@@ -32,4 +26,4 @@ returns-3 c =
     simp (le-ltb (length (a .image .now)) (a .at + 2) (omega arith), c .word .ensures)
 
 pub number-spec : {M : Type 1} → statement M
-number-spec = tie.close (tie.spec returns returns-2 word-requires add-t6 returns-3)
+number-spec = tie.close (tie.spec returns returns-2 (λ c κs. search needs) (λ c. search needs) returns-3)

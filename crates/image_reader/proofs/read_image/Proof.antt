@@ -1,130 +1,25 @@
-use mathlib.Core.Path.{_≡_, sym, ap, _∙_}
-use Prim.Native.Nat.{ℕ, _+_, _*_}
-use native.Mathlib.Omega.{arith}
-use borrow.Author.Tests.{lt-ltb, le-ltb}
-use lib.Dec.{ltb}
-use lib.ListN.{length, take, drop}
-use Rattle.tables.specs.Table.{markBytes}
-use Rattle.tables.specs.Lists.{over}
-use Rattle.automata.proofs.Tests.{or-left, or-right}
-use Rattle.images.specs.Image.{cellsAt, targetsAt}
-use Rattle.image_reader.specs.Read.{imageRead}
-use Rattle.image_reader.specs.declared.Read.the-variants.{Table}
-use Rattle.image_reader.proofs.Order.{image-order}
-use Rattle.image_reader.proofs.Accepted.{read-holds}
-use Rattle.image_reader.proofs.Reading.{reads-refused, reads-short, reads-table}
+use mathlib.Core.Path.{ap, _∙_}
 use borrow.Author.Needs.{needs}
+use lib.ListN.{length}
+use Rattle.rules.specs.Rules.{winch}
+use Rattle.rules.specs.declared.Limits.{Limits}
+use Rattle.image_reader.specs.declared.Read.{Read}
+use Rattle.image_reader.specs.Read.{atMost, roomed, readBy}
+use Rattle.image_reader.proofs.Order.{no-twelve}
 use Rattle.image_reader.proofs.read_image.Statement.{statement}
 use Rattle.image_reader.proofs.read_image.Tie as tie
 
-judge-requires : tie.Need-judge-requires
-judge-requires c κs = search needs
-
-enum-known-judged : tie.Need-enum-known-judged
-enum-known-judged c = search needs
-
-enum-told : tie.Need-enum-told
-enum-told c = search needs
-
 returns : tie.Need-returns
+unfolding readBy
 returns c =
-    let a = c .before .before .before .before .before .before .args in
-    let j = c .before .before .judge in
-    reads-refused (a .limits) (a .small) (a .image .now) (a .cells .now) (a .marks .now) (j .result) _ _
-    (j .ensures ∙ image-order (a .limits) (a .small) (a .image .now)) (c .enum-told .given .1)
-
-mul-count : tie.Need-mul-count
-mul-count c =
-    let a = c .before .before .before .before .before .before .before .args in
-    let b = a .image .now in
-    let j = c .before .before .before .judge in
-    let g = c .before .judged .given in
-    let e : imageRead (a .limits) (a .small) b ≡ Table (g .0 .0) (g .0 .1 .0) (g .0 .1 .1 .0) = sym (j .ensures ∙ image-order (a .limits) (a .small) b) ∙ g .1 in
-    let h = read-holds (a .limits) (a .small) b (λ i. omega (arith, c .before .before .before .before .before .before .shared-slice-known .given i)) (g .0 .0) (g .0 .1 .0) (g .0 .1 .1 .0) e in
-    record { fits = omega (arith, h .small) }
-
-returns-2 : tie.Need-returns-2
-returns-2 c =
-    let a = c .before .before .before .before .before .before .before .before .args in
-    let b = a .image .now in
-    let j = c .before .before .before .before .judge in
-    let g = c .before .before .judged .given in
-    let e : imageRead (a .limits) (a .small) b ≡ Table (g .0 .0) (g .0 .1 .0) (g .0 .1 .1 .0) = sym (j .ensures ∙ image-order (a .limits) (a .small) b) ∙ g .1 in
-    reads-short (a .limits) (a .small) b (a .cells .now) (a .marks .now) _ _ _ e (or-left _ _ (lt-ltb _ _ (c .if1 .taken)))
-
-mark-bytes-requires : tie.Need-mark-bytes-requires
-mark-bytes-requires c κs = search needs
-
-returns-3 : tie.Need-returns-3
-returns-3 c =
-    let a = c .before .before .before .before .before .before .before .before .before .before .args in
-    let b = a .image .now in
-    let j = c .before .before .before .before .before .before .judge in
-    let g = c .before .before .before .before .judged .given in
-    let e : imageRead (a .limits) (a .small) b ≡ Table (g .0 .0) (g .0 .1 .0) (g .0 .1 .1 .0) = sym (j .ensures ∙ image-order (a .limits) (a .small) b) ∙ g .1 in
-    reads-short (a .limits) (a .small) b (a .cells .now) (a .marks .now) _ _ _ e (or-right (ltb (length (a .cells .now)) (g .0 .0 * g .0 .1 .0)) _ (lt-ltb (length (a .marks .now)) (markBytes (g .0 .0)) (omega (arith, c .before .mark-bytes .ensures))))
-
-copy-marks-requires : tie.Need-copy-marks-requires
-copy-marks-requires c κs =
     let a = c .before .before .before .before .before .before .before .before .before .before .before .args in
+    let w = c .before .before .before .before .read-within .ensures in
     let b = a .image .now in
-    let j = c .before .before .before .before .before .before .before .judge in
-    let g = c .before .before .before .before .before .judged .given in
-    let e : imageRead (a .limits) (a .small) b ≡ Table (g .0 .0) (g .0 .1 .0) (g .0 .1 .1 .0) = sym (j .ensures ∙ image-order (a .limits) (a .small) b) ∙ g .1 in
-    let h = read-holds (a .limits) (a .small) b (λ i. omega (arith, c .before .before .before .before .before .before .before .before .before .before .shared-slice-known .given i)) (g .0 .0) (g .0 .1 .0) (g .0 .1 .1 .0) e in
-    (omega (arith, h .fits, c .before .before .mark-bytes .ensures), omega arith)
-
-add-copy-cells : tie.Need-add-copy-cells
-add-copy-cells c = search needs
-
-copy-cells-requires : tie.Need-copy-cells-requires
-copy-cells-requires c κs =
-    let a = c .before .before .before .before .before .before .before .before .before .before .before .before .before .before .before .args in
-    let b = a .image .now in
-    let j = c .before .before .before .before .before .before .before .before .before .before .before .judge in
-    let g = c .before .before .before .before .before .before .before .before .before .judged .given in
-    let e : imageRead (a .limits) (a .small) b ≡ Table (g .0 .0) (g .0 .1 .0) (g .0 .1 .1 .0) = sym (j .ensures ∙ image-order (a .limits) (a .small) b) ∙ g .1 in
-    let h = read-holds (a .limits) (a .small) b (λ i. omega (arith, c .before .before .before .before .before .before .before .before .before .before .before .before .before .before .shared-slice-known .given i)) (g .0 .0) (g .0 .1 .0) (g .0 .1 .1 .0) e in
-    (omega (arith, h .fits, c .before .before .before .before .before .before .mark-bytes .ensures), omega arith)
-
-same-length : tie.Need-same-length
-same-length c = search needs
-
-same-length-2 : tie.Need-same-length-2
-same-length-2 c = search needs
-
-returns-4 : tie.Need-returns-4
-returns-4 c =
-    let a = c .before .before .before .before .before .before .before .before .before .before .before .before .before .before .before .before .before .before .args in
-    let b = a .image .now in
-    let j = c .before .before .before .before .before .before .before .before .before .before .before .before .before .before .judge in
-    let g = c .before .before .before .before .before .before .before .before .before .before .before .before .judged .given in
-    let e : imageRead (a .limits) (a .small) b ≡ Table (g .0 .0) (g .0 .1 .0) (g .0 .1 .1 .0) = sym (j .ensures ∙ image-order (a .limits) (a .small) b) ∙ g .1 in
-    let m = c .before .before .before .before .before .before .before .before .before .mark-bytes in
-    let fits = le-ltb (length (a .cells .now)) (g .0 .0 * g .0 .1 .0) (omega arith) in
-    let room = le-ltb (length (a .marks .now)) (markBytes (g .0 .0)) (omega (arith, m .ensures)) in
-    let at : 4 + m .result ≡ targetsAt (g .0 .0) + 2 = omega (arith, m .ensures) in
-    let r = reads-table (a .limits) (a .small) b (a .cells .now) (a .marks .now) (g .0 .0) (g .0 .1 .0) (g .0 .1 .1 .0) e (rw (fits, room)) in (
-      r .0,
-      c .before .before .copy-cells .ensures ∙ ap (λ (k : ℕ). over (a .cells .now) 0 (cellsAt b k (g .0 .0 * g .0 .1 .0))) at,
-      c .before .before .before .before .before .before .copy-marks .ensures ∙ ap (λ (k : ℕ). over (a .marks .now) 0 (take k (drop 2 b))) (m .ensures),
-    )
+    let n = length (a .cells .now) in
+    let m = length (a .marks .now) in
+    let same = c .before .before .before .before .before .before .before .winch .ensures in
+    (w .0 ∙ ap (λ (L : Limits). readBy L (atMost (L .rows)) b n m) same ∙ ap (λ (r : Read). roomed r n m) (no-twelve winch b), w .1, w .2)
 
 pub read-image-spec : {M : Type 1} → statement M
 read-image-spec =
-    tie.close
-    (tie.spec
-    judge-requires
-    enum-known-judged
-    enum-told
-    returns
-    mul-count
-    returns-2
-    mark-bytes-requires
-    returns-3
-    copy-marks-requires
-    add-copy-cells
-    copy-cells-requires
-    same-length
-    same-length-2
-    returns-4)
+    tie.close (tie.spec (λ c κs. search needs) (λ c κs. search needs) (λ c. search needs) (λ c. search needs) returns)

@@ -6,15 +6,6 @@ use borrow.Author.Needs.{needs}
 use Rattle.image_reader.proofs.start_section.Statement.{statement}
 use Rattle.image_reader.proofs.start_section.Tie as tie
 
-number-requires : tie.Need-number-requires
-number-requires c κs = search needs
-
-enum-known-head : tie.Need-enum-known-head
-enum-known-head c = search needs
-
-enum-told : tie.Need-enum-told
-enum-told c = search needs
-
 returns : tie.Need-returns
 unfolding startSection
 returns c = refuses _ _ _ _ _ (c .before .before .number .ensures) (c .enum-told .given .1)
@@ -22,15 +13,6 @@ returns c = refuses _ _ _ _ _ (c .before .before .number .ensures) (c .enum-told
 returns-2 : tie.Need-returns-2
 unfolding startSection
 returns-2 c = simp (sym (c .before .before .before .before .number .ensures) ∙ c .before .before .head .given .1, ne-eqb _ _ (c .if1 .taken))
-
-number-requires-2 : tie.Need-number-requires-2
-number-requires-2 c κs = search needs
-
-enum-known-only : tie.Need-enum-known-only
-enum-known-only c = search needs
-
-enum-told-2 : tie.Need-enum-told-2
-enum-told-2 c = search needs
 
 returns-3 : tie.Need-returns-3
 unfolding startSection
@@ -48,14 +30,14 @@ pub start-section-spec : {M : Type 1} → statement M
 start-section-spec =
     tie.close
     (tie.spec
-    number-requires
-    enum-known-head
-    enum-told
+    (λ c κs. search needs)
+    (λ c. search needs)
+    (λ c. search needs)
     returns
     returns-2
-    number-requires-2
-    enum-known-only
-    enum-told-2
+    (λ c κs. search needs)
+    (λ c. search needs)
+    (λ c. search needs)
     returns-3
     returns-4
     returns-5)

@@ -4,21 +4,6 @@ use borrow.Author.Needs.{needs}
 use Rattle.image_reader.proofs.word.Statement.{statement}
 use Rattle.image_reader.proofs.word.Tie as tie
 
-shared-slice-read-wide : tie.Need-shared-slice-read-wide
-shared-slice-read-wide c = search needs
-
-wide-requires : tie.Need-wide-requires
-wide-requires c κs = search needs
-
-add-wide : tie.Need-add-wide
-add-wide c = search needs
-
-shared-slice-read-wide-2 : tie.Need-shared-slice-read-wide-2
-shared-slice-read-wide-2 c = search needs
-
-wide-requires-2 : tie.Need-wide-requires-2
-wide-requires-2 c κs = search needs
-
 mul-result : tie.Need-mul-result
 mul-result c = omega (arith, c .wide2 .ensures, c .before .shared-slice-known3 .given (c .before .before .before .before .before .args .at + 1))
 
@@ -28,18 +13,15 @@ add-result c =
     let k = c .before .shared-slice-known3 in
     omega (arith, c .wide2 .ensures, k .given (a .at + 1), c .before .before .wide .ensures, k .given (a .at))
 
-returns : tie.Need-returns
-returns c = search needs
-
 pub word-spec : {M : Type 1} → statement M
 word-spec =
     tie.close
     (tie.spec
-    shared-slice-read-wide
-    wide-requires
-    add-wide
-    shared-slice-read-wide-2
-    wide-requires-2
+    (λ c. search needs)
+    (λ c κs. search needs)
+    (λ c. search needs)
+    (λ c. search needs)
+    (λ c κs. search needs)
     mul-result
     add-result
-    returns)
+    (λ c. search needs))

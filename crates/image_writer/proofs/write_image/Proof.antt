@@ -12,21 +12,6 @@ use borrow.Author.Needs.{needs}
 use Rattle.image_writer.proofs.write_image.Statement.{statement}
 use Rattle.image_writer.proofs.write_image.Tie as tie
 
-winch-requires : tie.Need-winch-requires
-winch-requires c κs = search needs
-
-check-table-requires : tie.Need-check-table-requires
-check-table-requires c κs = search needs
-
-enum-known-number : tie.Need-enum-known-number
-enum-known-number c = search needs
-
-enum-told : tie.Need-enum-told
-enum-told c = search needs
-
-mark-bytes-requires : tie.Need-mark-bytes-requires
-mark-bytes-requires c κs = search needs
-
 -- the table's checks are passed, so it is small
 small : (c : tie.After-mark-bytes) → (c .before .before .before .before .before .before .before .before .args .rows * c .before .before .before .before .before .before .before .before .args .events ≤ 1024 * 32) × (c .before .before .before .before .before .before .before .before .args .rows ≤ 1024)
 small c =
@@ -85,9 +70,6 @@ returns-2 c =
     let no = verdict-is (w .result) T (v .result) _ (w .ensures) (v .ensures) (c .before .number .given .1) in
     writes T (a .out .now) (a .out .now) _ _ (write-refused T (length (a .out .now)) _ _ no) refl refl
 
-same-length : tie.Need-same-length
-same-length c = search needs
-
 returns-3 : tie.Need-returns-3
 returns-3 c =
     let a = c .before .before .before .before .before .before .before .before .before .before .before .before .before .args in
@@ -103,11 +85,11 @@ pub write-image-spec : {M : Type 1} → statement M
 write-image-spec =
     tie.close
     (tie.spec
-    winch-requires
-    check-table-requires
-    enum-known-number
-    enum-told
-    mark-bytes-requires
+    (λ c κs. search needs)
+    (λ c κs. search needs)
+    (λ c. search needs)
+    (λ c. search needs)
+    (λ c κs. search needs)
     mul-length
     mul-length-2
     add-length
@@ -115,5 +97,5 @@ write-image-spec =
     returns
     put-image-requires
     returns-2
-    same-length
+    (λ c. search needs)
     returns-3)

@@ -25,9 +25,6 @@ slice-aggregate-print-bytes c = search needs
 print-bytes-requires : tie.Need-print-bytes-requires
 print-bytes-requires c κs = search needs
 
-winch-requires : tie.Need-winch-requires
-winch-requires c κs = search needs
-
 array-share-prefix-out : tie.Need-array-share-prefix-out
 array-share-prefix-out c = search needs
 
@@ -72,7 +69,6 @@ round-trip-spec =
     print-written-requires
     slice-aggregate-print-bytes
     print-bytes-requires
-    winch-requires
     array-share-prefix-out
     slice-aggregate-read-image
     slice-aggregate-read-image-2

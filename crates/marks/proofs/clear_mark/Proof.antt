@@ -9,21 +9,6 @@ use Rattle.marks.proofs.Bits.{clear-bit}
 use Rattle.marks.proofs.clear_mark.Statement.{statement}
 use Rattle.marks.proofs.clear_mark.Tie as tie
 
-slice-read-marks : tie.Need-slice-read-marks
-slice-read-marks c = search needs
-
-cast-marks : tie.Need-cast-marks
-cast-marks c = search needs
-
-shl-marks : tie.Need-shl-marks
-shl-marks c = search needs
-
-slice-write-marks : tie.Need-slice-write-marks
-slice-write-marks c = search needs
-
-same-length : tie.Need-same-length
-same-length c = search needs
-
 -- `!` gives 8 bits, so that the byte's bound is needed.
 returns : tie.Need-returns
 unfolding marked
@@ -40,10 +25,10 @@ pub clear-mark-spec : {M : Type 1} → statement M
 clear-mark-spec =
     tie.close
     (tie.spec
-    slice-read-marks
-    cast-marks
-    shl-marks
-    slice-write-marks
-    same-length
+    (λ c. search needs)
+    (λ c. search needs)
+    (λ c. search needs)
+    (λ c. search needs)
+    (λ c. search needs)
     returns
     returns-2)

@@ -6,22 +6,10 @@ use borrow.Author.Needs.{needs}
 use Rattle.marks.proofs.put_mark.Statement.{statement}
 use Rattle.marks.proofs.put_mark.Tie as tie
 
-set-mark-requires : tie.Need-set-mark-requires
-set-mark-requires c κs = search needs
-
-same-length : tie.Need-same-length
-same-length c = search needs
-
 returns : tie.Need-returns
 returns c =
     let a = c .before .before .before .before .before .before .args in
     c .before .before .set-mark .ensures ∙ ap (λ (b : Bool). marked (a .marks .now) (a .row) (cond b 1 0)) (sym (eq-eqb (a .mark) 1 (c .before .before .before .before .if1 .taken)))
-
-clear-mark-requires : tie.Need-clear-mark-requires
-clear-mark-requires c κs = search needs
-
-same-length-2 : tie.Need-same-length-2
-same-length-2 c = search needs
 
 returns-2 : tie.Need-returns-2
 returns-2 c =
@@ -31,4 +19,4 @@ returns-2 c =
 pub put-mark-spec : {M : Type 1} → statement M
 put-mark-spec =
     tie.close
-    (tie.spec set-mark-requires same-length returns clear-mark-requires same-length-2 returns-2)
+    (tie.spec (λ c κs. search needs) (λ c. search needs) returns (λ c κs. search needs) (λ c. search needs) returns-2)

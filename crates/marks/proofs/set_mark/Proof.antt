@@ -8,21 +8,6 @@ use Rattle.marks.proofs.Bits.{set-bit}
 use Rattle.marks.proofs.set_mark.Statement.{statement}
 use Rattle.marks.proofs.set_mark.Tie as tie
 
-slice-read-marks : tie.Need-slice-read-marks
-slice-read-marks c = search needs
-
-cast-marks : tie.Need-cast-marks
-cast-marks c = search needs
-
-shl-marks : tie.Need-shl-marks
-shl-marks c = search needs
-
-slice-write-marks : tie.Need-slice-write-marks
-slice-write-marks c = search needs
-
-same-length : tie.Need-same-length
-same-length c = search needs
-
 returns : tie.Need-returns
 unfolding marked
 returns c = rw (set-bit _ (c .before .before .args .row % 8) (omega arith))
@@ -35,10 +20,10 @@ pub set-mark-spec : {M : Type 1} → statement M
 set-mark-spec =
     tie.close
     (tie.spec
-    slice-read-marks
-    cast-marks
-    shl-marks
-    slice-write-marks
-    same-length
+    (λ c. search needs)
+    (λ c. search needs)
+    (λ c. search needs)
+    (λ c. search needs)
+    (λ c. search needs)
     returns
     returns-2)

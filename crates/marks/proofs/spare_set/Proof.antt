@@ -8,15 +8,9 @@ returns : tie.Need-returns
 unfolding spareSet
 returns c = rw (eq-eqb _ 0 (c .if1 .taken))
 
-cast-result : tie.Need-cast-result
-cast-result c = search needs
-
-shr-result : tie.Need-shr-result
-shr-result c = search needs
-
 returns-2 : tie.Need-returns-2
 unfolding spareSet
 returns-2 c = rw (ne-eqb _ 0 (c .if1 .left))
 
 pub spare-set-spec : {M : Type 1} → statement M
-spare-set-spec = tie.close (tie.spec returns cast-result shr-result returns-2)
+spare-set-spec = tie.close (tie.spec returns (λ c. search needs) (λ c. search needs) returns-2)

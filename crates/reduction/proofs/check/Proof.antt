@@ -5,18 +5,6 @@ use borrow.Author.Needs.{needs}
 use Rattle.reduction.proofs.check.Statement.{statement}
 use Rattle.reduction.proofs.check.Tie as tie
 
-winch-requires : tie.Need-winch-requires
-winch-requires c κs = search needs
-
-check-table-requires : tie.Need-check-table-requires
-check-table-requires c κs = search needs
-
-enum-known-number : tie.Need-enum-known-number
-enum-known-number c = search needs
-
-enum-told : tie.Need-enum-told
-enum-told c = search needs
-
 cast-check-room : tie.Need-cast-check-room
 cast-check-room c =
     let a = c .before .before .before .before .before .before .args in
@@ -26,9 +14,6 @@ cast-check-room-2 : tie.Need-cast-check-room-2
 cast-check-room-2 c =
     let a = c .before .before .before .before .before .before .args in
     record { fits = omega (arith, few-events (tableOf (a .rows) (a .events) (a .start) (a .cells .now) (a .marks .now)) (a .cellroom) (a .markroom) (a .recordroom) (a .room) (c .before .before .before .winch .result) (c .before .before .check-table .result) (c .before .before .before .winch .ensures) (c .before .before .check-table .ensures) (c .enum-told .given .1)) }
-
-check-room-requires : tie.Need-check-room-requires
-check-room-requires c κs = search needs
 
 returns : tie.Need-returns
 returns c =
@@ -44,12 +29,12 @@ pub check-spec : {M : Type 1} → statement M
 check-spec =
     tie.close
     (tie.spec
-    winch-requires
-    check-table-requires
-    enum-known-number
-    enum-told
+    (λ c κs. search needs)
+    (λ c κs. search needs)
+    (λ c. search needs)
+    (λ c. search needs)
     cast-check-room
     cast-check-room-2
-    check-room-requires
+    (λ c κs. search needs)
     returns
     returns-2)

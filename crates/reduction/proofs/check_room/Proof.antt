@@ -5,12 +5,6 @@ use borrow.Author.Needs.{needs}
 use Rattle.reduction.proofs.check_room.Statement.{statement}
 use Rattle.reduction.proofs.check_room.Tie as tie
 
-wide-requires : tie.Need-wide-requires
-wide-requires c κs = search needs
-
-wide-requires-2 : tie.Need-wide-requires-2
-wide-requires-2 c κs = search needs
-
 mul-if1 : tie.Need-mul-if1
 mul-if1 c = omega (arith, product-bound (c .before .wide .result) (c .wide2 .result) (omega arith) (omega arith))
 
@@ -19,27 +13,15 @@ returns c =
     let a = c .before .before .before .args in
     short-cells (a .rows) (a .events) (a .cells) (a .marks) (a .records) (a .scratch) (less-product (c .before .before .wide .ensures) (c .before .wide2 .ensures) (c .if1 .taken))
 
-wide-requires-3 : tie.Need-wide-requires-3
-wide-requires-3 c κs = search needs
-
-mark-bytes-requires : tie.Need-mark-bytes-requires
-mark-bytes-requires c κs = search needs
-
 returns-2 : tie.Need-returns-2
 returns-2 c =
     let a = c .before .before .before .before .before .before .args in
     short-marks (a .rows) (a .events) (a .cells) (a .marks) (a .records) (a .scratch) (same-product (c .before .before .before .before .before .wide .ensures) (c .before .before .before .before .wide2 .ensures) (c .before .before .before .if1 .left)) (omega (arith, c .if2 .taken, c .before .mark-bytes .ensures, c .before .before .wide3 .ensures))
 
-wide-requires-4 : tie.Need-wide-requires-4
-wide-requires-4 c κs = search needs
-
 returns-3 : tie.Need-returns-3
 returns-3 c =
     let a = c .before .before .before .before .before .before .before .before .args in
     short-records (a .rows) (a .events) (a .cells) (a .marks) (a .records) (a .scratch) (same-product (c .before .before .before .before .before .before .before .wide .ensures) (c .before .before .before .before .before .before .wide2 .ensures) (c .before .before .before .before .before .if1 .left)) (omega (arith, c .before .before .if2 .left, c .before .before .before .mark-bytes .ensures, c .before .before .before .before .wide3 .ensures)) (omega (arith, c .if3 .taken, c .before .wide4 .ensures))
-
-needed-requires : tie.Need-needed-requires
-needed-requires c κs = search needs
 
 returns-4 : tie.Need-returns-4
 returns-4 c =
@@ -55,15 +37,15 @@ pub check-room-spec : {M : Type 1} → statement M
 check-room-spec =
     tie.close
     (tie.spec
-    wide-requires
-    wide-requires-2
+    (λ c κs. search needs)
+    (λ c κs. search needs)
     mul-if1
     returns
-    wide-requires-3
-    mark-bytes-requires
+    (λ c κs. search needs)
+    (λ c κs. search needs)
     returns-2
-    wide-requires-4
+    (λ c κs. search needs)
     returns-3
-    needed-requires
+    (λ c κs. search needs)
     returns-4
     returns-5)

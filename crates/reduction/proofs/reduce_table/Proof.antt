@@ -4,21 +4,6 @@ use borrow.Author.Needs.{needs}
 use Rattle.reduction.proofs.reduce_table.Statement.{statement}
 use Rattle.reduction.proofs.reduce_table.Tie as tie
 
-work-requires : tie.Need-work-requires
-work-requires c κs = search needs
-
-finish-requires : tie.Need-finish-requires
-finish-requires c κs = search needs
-
-same-length : tie.Need-same-length
-same-length c = search needs
-
-same-length-2 : tie.Need-same-length-2
-same-length-2 c = search needs
-
-same-length-3 : tie.Need-same-length-3
-same-length-3 c = search needs
-
 returns : tie.Need-returns
 returns c =
     let a = c .before .before .before .before .before .before .before .before .before .before .before .before .before .before .before .before .before .before .before .args in
@@ -30,4 +15,4 @@ returns c =
 pub reduce-table-spec : {M : Type 1} → statement M
 reduce-table-spec =
     tie.close
-    (tie.spec work-requires finish-requires same-length same-length-2 same-length-3 returns)
+    (tie.spec (λ c κs. search needs) (λ c κs. search needs) (λ c. search needs) (λ c. search needs) (λ c. search needs) returns)

@@ -5,21 +5,6 @@ use borrow.Author.Needs.{needs}
 use Rattle.reduction.proofs.work.Statement.{statement}
 use Rattle.reduction.proofs.work.Tie as tie
 
-check-requires : tie.Need-check-requires
-check-requires c κs = search needs
-
-enum-known-number : tie.Need-enum-known-number
-enum-known-number c = search needs
-
-enum-told : tie.Need-enum-told
-enum-told c = search needs
-
-fold-rows-requires : tie.Need-fold-rows-requires
-fold-rows-requires c κs = search needs
-
-renumber-requires : tie.Need-renumber-requires
-renumber-requires c κs = search needs
-
 cast-t30 : tie.Need-cast-t30
 cast-t30 c =
     let a = c .before .before .before .before .before .before .before .before .before .before .before .before .before .before .before .before .before .before .before .before .before .before .args in
@@ -29,15 +14,6 @@ returns : tie.Need-returns
 returns c =
     let a = c .before .before .before .before .before .before .before .before .before .args in
     work-refused (offsetOf (a .offset)) (tableOf (a .rows) (a .events) (a .start) (a .cells .now) (a .marks .now)) (λ i. omega (arith, c .before .before .before .before .before .before .before .shared-slice-known2 .given i)) (a .newcells .now) (a .newmarks .now) (a .scratch .now) (a .room) (c .before .before .before .check .ensures) (c .before .number .given .0 .0) (c .before .number .given .0 .1 .0) (c .before .number .given .1)
-
-same-length : tie.Need-same-length
-same-length c = search needs
-
-same-length-2 : tie.Need-same-length-2
-same-length-2 c = search needs
-
-same-length-3 : tie.Need-same-length-3
-same-length-3 c = search needs
 
 returns-2 : tie.Need-returns-2
 returns-2 c =
@@ -50,14 +26,14 @@ pub work-spec : {M : Type 1} → statement M
 work-spec =
     tie.close
     (tie.spec
-    check-requires
-    enum-known-number
-    enum-told
-    fold-rows-requires
-    renumber-requires
+    (λ c κs. search needs)
+    (λ c. search needs)
+    (λ c. search needs)
+    (λ c κs. search needs)
+    (λ c κs. search needs)
     cast-t30
     returns
-    same-length
-    same-length-2
-    same-length-3
+    (λ c. search needs)
+    (λ c. search needs)
+    (λ c. search needs)
     returns-2)

@@ -19,9 +19,6 @@ Inv-loop rows events start cells marks scratch₀ at count₀ i₀ scratch count
 abbrev μ-loop : tie.MeasureT-loop
 μ-loop rows events start cells marks scratch₀ at count₀ i₀ scratch count i = rows - i
 
-queue-at-requires : tie.Need-queue-at-requires Inv-loop μ-loop
-queue-at-requires c κs = search needs
-
 loop-holds : tie.Need-loop-holds Inv-loop μ-loop
 loop-holds c =
     let z = c .before .before .before .before in
@@ -32,21 +29,12 @@ loop-holds c =
 add-cell : tie.Need-add-cell Inv-loop μ-loop
 add-cell c = omega (arith, c .before .before .before .queue-at .ensures, triangle-bound (c .before .before .before .before .before .before .before .args .rows) (omega arith))
 
-cell-requires : tie.Need-cell-requires Inv-loop μ-loop
-cell-requires c κs = search needs
-
 meet-requires : tie.Need-meet-requires Inv-loop μ-loop
 meet-requires c κs =
     let z = c .before .before .before .before .before .before .before .before .before in
     let a = z .args in
     let l = c .before .before .before .before .loop in
     ((omega (arith, (z .pre .1 .0), l .inv .4), cells-rows (tableOf (a .rows) (a .events) (a .start) (a .cells .now) (a .marks .now)) (z .pre .0), l .inv .1), queue-line (tableOf (a .rows) (a .events) (a .start) (a .cells .now) (a .marks .now)) (z .pre .0) (a .scratch .now) (z .pre .1 .0) (l .i) (l .scratch) (l .inv .2) (l .count) (l .inv .3))
-
-add-i : tie.Need-add-i Inv-loop μ-loop
-add-i c = omega arith
-
-loop-less : tie.Need-loop-less Inv-loop μ-loop
-loop-less c = omega arith
 
 loop-again : tie.Need-loop-again Inv-loop μ-loop
 loop-again c =
@@ -77,13 +65,13 @@ go-through-spec =
     (tie.spec
     Inv-loop
     μ-loop
-    queue-at-requires
+    (λ c κs. search needs)
     loop-holds
     add-cell
-    cell-requires
+    (λ c κs. search needs)
     meet-requires
-    add-i
-    loop-less
+    (λ c. omega arith)
+    (λ c. omega arith)
     loop-again
     same-length
     returns)

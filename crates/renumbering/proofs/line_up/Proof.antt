@@ -7,32 +7,14 @@ use borrow.Author.Needs.{needs}
 use Rattle.renumbering.proofs.line_up.Statement.{statement}
 use Rattle.renumbering.proofs.line_up.Tie as tie
 
-folds-at-requires : tie.Need-folds-at-requires
-folds-at-requires c κs = search needs
-
-wide-requires : tie.Need-wide-requires
-wide-requires c κs = search needs
-
 add-cell : tie.Need-add-cell
 add-cell c = omega (arith, c .before .folds-at .ensures, triangle-bound (c .before .before .before .before .before .before .args .rows) (omega arith))
-
-cell-requires : tie.Need-cell-requires
-cell-requires c κs = search needs
-
-queue-at-requires : tie.Need-queue-at-requires
-queue-at-requires c κs = search needs
-
-put-requires : tie.Need-put-requires
-put-requires c κs = search needs
 
 go-through-requires : tie.Need-go-through-requires
 go-through-requires c κs =
     let z = c .before .before .before .before .before .before .before .before .before .before .before .before .before in
     let a = z .args in
     ((z .pre .0), first-there (tableOf (a .rows) (a .events) (a .start) (a .cells .now) (a .marks .now)) (z .pre .0) (a .scratch .now) (z .pre .1) (c .before .before .before .before .queue-at .result) (c .before .before .before .before .before .before .cell .result) (c .before .before .before .put .last .0) (c .before .before .before .before .queue-at .ensures) (reads-fold (a .scratch .now) (a .rows) (c .before .before .before .before .before .before .before .before .folds-at .ensures) (c .before .before .before .before .before .before .before .wide .ensures) (c .before .before .before .before .before .before .cell .ensures)) (c .before .before .before .put .ensures))
-
-same-length : tie.Need-same-length
-same-length c = search needs
 
 returns : tie.Need-returns
 returns c =
@@ -46,12 +28,12 @@ pub line-up-spec : {M : Type 1} → statement M
 line-up-spec =
     tie.close
     (tie.spec
-    folds-at-requires
-    wide-requires
+    (λ c κs. search needs)
+    (λ c κs. search needs)
     add-cell
-    cell-requires
-    queue-at-requires
-    put-requires
+    (λ c κs. search needs)
+    (λ c κs. search needs)
+    (λ c κs. search needs)
     go-through-requires
-    same-length
+    (λ c. search needs)
     returns)

@@ -19,12 +19,6 @@ Inv-loop cells rows events scratch₀ row count at folds count₀ a₀ scratch c
 abbrev μ-loop : tie.MeasureT-loop
 μ-loop cells rows events scratch₀ row count at folds count₀ a₀ scratch count' a = events - a
 
-queue-at-requires : tie.Need-queue-at-requires Inv-loop μ-loop
-queue-at-requires c κs = search needs
-
-folds-at-requires : tie.Need-folds-at-requires Inv-loop μ-loop
-folds-at-requires c κs = search needs
-
 loop-holds : tie.Need-loop-holds Inv-loop μ-loop
 loop-holds c =
     let z = c .before .before .before .before in
@@ -32,17 +26,8 @@ loop-holds c =
     let e = none-met (a .cells .now) (a .scratch .now) (a .rows) (a .events) (a .row) (a .count) (z .pre .0 .0) (z .pre .0 .1) (z .pre .1) (z .pre .0 .2) in
     (omega arith, e .0, e .1, refl)
 
-target-requires : tie.Need-target-requires Inv-loop μ-loop
-target-requires c κs = search needs
-
-wide-requires : tie.Need-wide-requires Inv-loop μ-loop
-wide-requires c κs = search needs
-
 add-cell : tie.Need-add-cell Inv-loop μ-loop
 add-cell c = omega (arith, c .before .before .before .before .before .folds-at .ensures, triangle-bound (c .before .before .before .before .before .before .before .before .before .args .rows) (omega arith))
-
-cell-requires : tie.Need-cell-requires Inv-loop μ-loop
-cell-requires c κs = search needs
 
 join-requires : tie.Need-join-requires Inv-loop μ-loop
 join-requires c κs =
@@ -50,12 +35,6 @@ join-requires c κs =
     let a = z .args in
     let l = c .before .before .before .before .before .before .loop in
     omega (arith, c .before .before .before .before .before .before .before .before .queue-at .ensures, l .inv .2, l .inv .3, z .pre .0 .0, so-far-fits (a .cells .now) (a .scratch .now) (a .rows) (a .events) (a .row) (a .count) (z .pre .0 .0) (z .pre .0 .1) (z .pre .1) (l .a), z .pre .0 .1 0)
-
-add-a : tie.Need-add-a Inv-loop μ-loop
-add-a c = omega arith
-
-loop-less : tie.Need-loop-less Inv-loop μ-loop
-loop-less c = omega arith
 
 loop-again : tie.Need-loop-again Inv-loop μ-loop
 loop-again c =
@@ -86,16 +65,16 @@ meet-spec =
     (tie.spec
     Inv-loop
     μ-loop
-    queue-at-requires
-    folds-at-requires
+    (λ c κs. search needs)
+    (λ c κs. search needs)
     loop-holds
-    target-requires
-    wide-requires
+    (λ c κs. search needs)
+    (λ c κs. search needs)
     add-cell
-    cell-requires
+    (λ c κs. search needs)
     join-requires
-    add-a
-    loop-less
+    (λ c. omega arith)
+    (λ c. omega arith)
     loop-again
     same-length
     returns)

@@ -6,20 +6,8 @@ use borrow.Author.Needs.{needs}
 use Rattle.renumbering.proofs.new_mark.Statement.{statement}
 use Rattle.renumbering.proofs.new_mark.Tie as tie
 
-queue-at-requires : tie.Need-queue-at-requires
-queue-at-requires c κs = search needs
-
 add-cell : tie.Need-add-cell
 add-cell c = omega (arith, c .queue-at .ensures, triangle-bound (c .before .before .before .before .args .rows) (omega arith))
-
-cell-requires : tie.Need-cell-requires
-cell-requires c κs = search needs
-
-wide-requires : tie.Need-wide-requires
-wide-requires c κs = search needs
-
-mark-requires : tie.Need-mark-requires
-mark-requires c κs = search needs
 
 returns : tie.Need-returns
 returns c =
@@ -35,10 +23,10 @@ pub new-mark-spec : {M : Type 1} → statement M
 new-mark-spec =
     tie.close
     (tie.spec
-    queue-at-requires
+    (λ c κs. search needs)
     add-cell
-    cell-requires
-    wide-requires
-    mark-requires
+    (λ c κs. search needs)
+    (λ c κs. search needs)
+    (λ c κs. search needs)
     returns
     returns-2)

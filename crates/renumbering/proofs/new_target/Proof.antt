@@ -6,41 +6,14 @@ use borrow.Author.Needs.{needs}
 use Rattle.renumbering.proofs.new_target.Statement.{statement}
 use Rattle.renumbering.proofs.new_target.Tie as tie
 
-wide-requires : tie.Need-wide-requires
-wide-requires c κs = search needs
-
-queue-at-requires : tie.Need-queue-at-requires
-queue-at-requires c κs = search needs
-
-div-cell : tie.Need-div-cell
-div-cell c = search needs
-
 add-cell : tie.Need-add-cell
 add-cell c = omega (arith, c .queue-at .ensures, triangle-bound (c .before .before .before .before .args .rows) (omega arith), div-le-self (c .before .before .before .before .args .c) (c .before .wide .result), c .before .before .before .before .pre .1)
-
-cell-requires : tie.Need-cell-requires
-cell-requires c κs = search needs
-
-rem-target : tie.Need-rem-target
-rem-target c = search needs
 
 cast-target : tie.Need-cast-target
 cast-target c = omega (arith, mod-le (c .before .before .before .before .before .args .c) (c .before .before .wide .result), c .before .before .before .before .before .pre .1)
 
-target-requires : tie.Need-target-requires
-target-requires c κs = search needs
-
-numbers-at-requires : tie.Need-numbers-at-requires
-numbers-at-requires c κs = search needs
-
-wide-requires-2 : tie.Need-wide-requires-2
-wide-requires-2 c κs = search needs
-
 add-cell-2 : tie.Need-add-cell-2
 add-cell-2 c = omega (arith, c .before .numbers-at .ensures, triangle-bound (c .before .before .before .before .before .before .before .before .args .rows) (omega arith))
-
-cell-requires-2 : tie.Need-cell-requires-2
-cell-requires-2 c κs = search needs
 
 returns : tie.Need-returns
 returns c =
@@ -52,16 +25,16 @@ pub new-target-spec : {M : Type 1} → statement M
 new-target-spec =
     tie.close
     (tie.spec
-    wide-requires
-    queue-at-requires
-    div-cell
+    (λ c κs. search needs)
+    (λ c κs. search needs)
+    (λ c. search needs)
     add-cell
-    cell-requires
-    rem-target
+    (λ c κs. search needs)
+    (λ c. search needs)
     cast-target
-    target-requires
-    numbers-at-requires
-    wide-requires-2
+    (λ c κs. search needs)
+    (λ c κs. search needs)
+    (λ c κs. search needs)
     add-cell-2
-    cell-requires-2
+    (λ c κs. search needs)
     returns)

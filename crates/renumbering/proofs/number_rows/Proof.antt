@@ -18,26 +18,11 @@ Inv-loop rows scratch₀ count queue folds numbers q₀ scratch q = (q ≤ rows)
 abbrev μ-loop : tie.MeasureT-loop
 μ-loop rows scratch₀ count queue folds numbers q₀ scratch q = rows - q
 
-queue-at-requires : tie.Need-queue-at-requires Inv-loop μ-loop
-queue-at-requires c κs = search needs
-
-folds-at-requires : tie.Need-folds-at-requires Inv-loop μ-loop
-folds-at-requires c κs = search needs
-
-numbers-at-requires : tie.Need-numbers-at-requires Inv-loop μ-loop
-numbers-at-requires c κs = search needs
-
 loop-holds : tie.Need-loop-holds Inv-loop μ-loop
 loop-holds c = (omega arith, sym (over-none (c .before .before .before .before .args .scratch .now) (numbersAt (c .before .before .before .before .args .rows))), refl)
 
-wide-requires : tie.Need-wide-requires Inv-loop μ-loop
-wide-requires c κs = search needs
-
 add-cell : tie.Need-add-cell Inv-loop μ-loop
 add-cell c = omega (arith, c .before .before .before .before .before .folds-at .ensures, triangle-bound (c .before .before .before .before .before .before .before .before .args .rows) (omega arith))
-
-cell-requires : tie.Need-cell-requires Inv-loop μ-loop
-cell-requires c κs = search needs
 
 place-requires : tie.Need-place-requires Inv-loop μ-loop
 place-requires c κs = omega (arith, c .before .before .before .before .before .before .before .before .queue-at .ensures, c .before .before .before .before .before .before .before .before .before .before .pre)
@@ -47,15 +32,6 @@ add-put c = omega (arith, c .before .before .before .before .before .before .bef
 
 cast-put : tie.Need-cast-put Inv-loop μ-loop
 cast-put c = omega (arith, place-most (c .before .before .before .before .before .before .before .loop .scratch) (c .before .before .before .before .before .before .before .before .before .before .queue-at .result) (c .before .before .before .before .before .before .before .before .before .before .before .before .args .count) (c .before .before .before .cell .result) (omega (arith, c .before .before .before .before .before .before .before .before .before .before .queue-at .ensures, c .before .before .before .before .before .before .before .before .before .before .before .before .pre)) (c .before .place .ensures), c .before .before .before .before .before .before .before .before .before .before .before .before .pre .1)
-
-put-requires : tie.Need-put-requires Inv-loop μ-loop
-put-requires c κs = search needs
-
-add-q : tie.Need-add-q Inv-loop μ-loop
-add-q c = omega arith
-
-loop-less : tie.Need-loop-less Inv-loop μ-loop
-loop-less c = omega arith
 
 loop-again : tie.Need-loop-again Inv-loop μ-loop
 loop-again c =
@@ -83,19 +59,19 @@ number-rows-spec =
     (tie.spec
     Inv-loop
     μ-loop
-    queue-at-requires
-    folds-at-requires
-    numbers-at-requires
+    (λ c κs. search needs)
+    (λ c κs. search needs)
+    (λ c κs. search needs)
     loop-holds
-    wide-requires
+    (λ c κs. search needs)
     add-cell
-    cell-requires
+    (λ c κs. search needs)
     place-requires
     add-put
     cast-put
-    put-requires
-    add-q
-    loop-less
+    (λ c κs. search needs)
+    (λ c. omega arith)
+    (λ c. omega arith)
     loop-again
     same-length
     returns)

@@ -10,9 +10,6 @@ use borrow.Author.Needs.{needs}
 use Rattle.renumbering.proofs.renumber.Statement.{statement}
 use Rattle.renumbering.proofs.renumber.Tie as tie
 
-workable-requires : tie.Need-workable-requires
-workable-requires c κs = search needs
-
 returns : tie.Need-returns
 returns c =
     let a = c .before .before .before .before .before .before .before .args in
@@ -28,9 +25,6 @@ returns-2 : tie.Need-returns-2
 returns-2 c =
     let a = c .before .before .before .before .before .before .before .before .args in
     no-room (tableOf (a .rows) (a .events) (a .start) (a .cells .now) (a .marks .now)) (a .scratch .now) (a .newcells .now) (a .newmarks .now) (cells-short (tableOf (a .rows) (a .events) (a .start) (a .cells .now) (a .marks .now)) (a .scratch .now) (a .newcells .now) (a .newmarks .now) (c .if2 .taken))
-
-mark-bytes-requires : tie.Need-mark-bytes-requires
-mark-bytes-requires c κs = search needs
 
 returns-3 : tie.Need-returns-3
 returns-3 c =
@@ -61,15 +55,6 @@ renumber-within-requires c κs =
     let v = workable-valid (tableOf (a .rows) (a .events) (a .start) (a .cells .now) (a .marks .now)) (length (a .scratch .now)) (sym (c .before .before .before .before .before .before .before .workable .ensures) ∙ not-false _ (c .before .before .before .before .before .before .if1 .left)) (λ i. omega (arith, c .before .before .before .before .before .before .before .before .before .before .before .shared-slice-known2 .given i)) in
     (v .0, (v .1, c .before .before .before .before .before .if2 .left, omega (arith, c .before .before .before .if3 .left, c .before .before .before .before .mark-bytes .ensures)))
 
-same-length : tie.Need-same-length
-same-length c = search needs
-
-same-length-2 : tie.Need-same-length-2
-same-length-2 c = search needs
-
-same-length-3 : tie.Need-same-length-3
-same-length-3 c = search needs
-
 returns-4 : tie.Need-returns-4
 returns-4 c =
     let a = c .before .before .before .before .before .before .before .before .before .before .before .before .before .before .before .before .before .before .before .before .args in
@@ -81,17 +66,17 @@ pub renumber-spec : {M : Type 1} → statement M
 renumber-spec =
     tie.close
     (tie.spec
-    workable-requires
+    (λ c κs. search needs)
     returns
     mul-if2
     returns-2
-    mark-bytes-requires
+    (λ c κs. search needs)
     returns-3
     cast-renumber-within
     cast-renumber-within-2
     cast-renumber-within-3
     renumber-within-requires
-    same-length
-    same-length-2
-    same-length-3
+    (λ c. search needs)
+    (λ c. search needs)
+    (λ c. search needs)
     returns-4)

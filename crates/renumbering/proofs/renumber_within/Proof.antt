@@ -8,17 +8,11 @@ use borrow.Author.Needs.{needs}
 use Rattle.renumbering.proofs.renumber_within.Statement.{statement}
 use Rattle.renumbering.proofs.renumber_within.Tie as tie
 
-line-up-requires : tie.Need-line-up-requires
-line-up-requires c κs = search needs
-
 number-rows-requires : tie.Need-number-rows-requires
 number-rows-requires c κs =
     let z = c .before .before .before .before .before .before .before .before .before .before in
     let a = z .args in
     (lined-room (tableOf (a .rows) (a .events) (a .start) (a .cells .now) (a .marks .now)) (z .pre .0) (a .scratch .now) (z .pre .1 .0) (c .before .before .before .line-up .last .1 .1 .1 .1 .1 .0) (c .before .before .before .line-up .ensures .1) (c .before .before .before .line-up .result) (c .before .before .before .line-up .ensures .0), lined-count (tableOf (a .rows) (a .events) (a .start) (a .cells .now) (a .marks .now)) (z .pre .0) (a .scratch .now) (z .pre .1 .0) (c .before .before .before .line-up .last .1 .1 .1 .1 .1 .0) (c .before .before .before .line-up .ensures .1) (c .before .before .before .line-up .result) (c .before .before .before .line-up .ensures .0))
-
-wide-requires : tie.Need-wide-requires
-wide-requires c κs = search needs
 
 mul-write-cells : tie.Need-mul-write-cells
 mul-write-cells c =
@@ -41,15 +35,6 @@ write-marks-requires c κs =
     let h = lined-count (tableOf (a .rows) (a .events) (a .start) (a .cells .now) (a .marks .now)) (z .pre .0) (a .scratch .now) (z .pre .1 .0) (c .before .before .before .before .before .before .before .before .before .before .before .before .before .before .line-up .last .1 .1 .1 .1 .1 .0) (c .before .before .before .before .before .before .before .before .before .before .before .before .before .before .line-up .ensures .1) (c .before .before .before .before .before .before .before .before .before .before .before .before .before .before .line-up .result) (c .before .before .before .before .before .before .before .before .before .before .before .before .before .before .line-up .ensures .0) in
     (omega (arith, z .pre .0 .rows-fit), omega (arith, z .pre .1 .2))
 
-same-length : tie.Need-same-length
-same-length c = search needs
-
-same-length-2 : tie.Need-same-length-2
-same-length-2 c = search needs
-
-same-length-3 : tie.Need-same-length-3
-same-length-3 c = search needs
-
 returns : tie.Need-returns
 returns c =
     let z = c .before .before .before .before .before .before .before .before .before .before .before .before .before .before .before .before .before .before .before .before .before .before .before .before in
@@ -66,13 +51,13 @@ pub renumber-within-spec : {M : Type 1} → statement M
 renumber-within-spec =
     tie.close
     (tie.spec
-    line-up-requires
+    (λ c κs. search needs)
     number-rows-requires
-    wide-requires
+    (λ c κs. search needs)
     mul-write-cells
     write-cells-requires
     write-marks-requires
-    same-length
-    same-length-2
-    same-length-3
+    (λ c. search needs)
+    (λ c. search needs)
+    (λ c. search needs)
     returns)

@@ -14,9 +14,6 @@ Inv-loop marks rows scratch count out₀ bits i₀ out i = (i ≤ bits) × (bits
 abbrev μ-loop : tie.MeasureT-loop
 μ-loop marks rows scratch count out₀ bits i₀ out i = bits - i
 
-mark-bytes-requires : tie.Need-mark-bytes-requires Inv-loop μ-loop
-mark-bytes-requires c κs = search needs
-
 mul-bits : tie.Need-mul-bits Inv-loop μ-loop
 mul-bits c = omega (arith, c .mark-bytes .ensures)
 
@@ -27,15 +24,6 @@ loop-holds c =
 
 new-mark-requires : tie.Need-new-mark-requires Inv-loop μ-loop
 new-mark-requires c κs = omega (arith, c .before .before .loop .inv .1)
-
-put-mark-requires : tie.Need-put-mark-requires Inv-loop μ-loop
-put-mark-requires c κs = search needs
-
-add-i : tie.Need-add-i Inv-loop μ-loop
-add-i c = omega arith
-
-loop-less : tie.Need-loop-less Inv-loop μ-loop
-loop-less c = omega arith
 
 loop-again : tie.Need-loop-again Inv-loop μ-loop
 loop-again c =
@@ -60,13 +48,13 @@ write-marks-spec =
     (tie.spec
     Inv-loop
     μ-loop
-    mark-bytes-requires
+    (λ c κs. search needs)
     mul-bits
     loop-holds
     new-mark-requires
-    put-mark-requires
-    add-i
-    loop-less
+    (λ c κs. search needs)
+    (λ c. omega arith)
+    (λ c. omega arith)
     loop-again
     same-length
     returns)

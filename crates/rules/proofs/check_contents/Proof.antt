@@ -6,17 +6,8 @@ use borrow.Author.Needs.{needs}
 use Rattle.rules.proofs.check_contents.Statement.{statement}
 use Rattle.rules.proofs.check_contents.Tie as tie
 
-first-outside-requires : tie.Need-first-outside-requires
-first-outside-requires c κs = search needs
-
 returns : tie.Need-returns
 returns c = simp (sym (c .before .first-outside .ensures), lt-ltb _ _ (c .if1 .taken))
-
-shared-slice-read-spare-set : tie.Need-shared-slice-read-spare-set
-shared-slice-read-spare-set c = search needs
-
-spare-set-requires : tie.Need-spare-set-requires
-spare-set-requires c κs = search needs
 
 returns-2 : tie.Need-returns-2
 returns-2 c = simp (sym (c .before .before .before .before .before .first-outside .ensures), le-ltb _ _ (c .before .before .before .before .if1 .left), sym (c .before .spare-set .ensures) ∙ c .if3 .taken)
@@ -34,10 +25,10 @@ pub check-contents-spec : {M : Type 1} → statement M
 check-contents-spec =
     tie.close
     (tie.spec
-    first-outside-requires
+    (λ c κs. search needs)
     returns
-    shared-slice-read-spare-set
-    spare-set-requires
+    (λ c. search needs)
+    (λ c κs. search needs)
     returns-2
     returns-3
     returns-4)

@@ -6,14 +6,8 @@ use borrow.Author.Needs.{needs}
 use Rattle.rules.proofs.check_shape.Statement.{statement}
 use Rattle.rules.proofs.check_shape.Tie as tie
 
-beyond-requires : tie.Need-beyond-requires
-beyond-requires c κs = search needs
-
 returns : tie.Need-returns
 returns c = simp (sym (c .before .beyond .ensures .0) ∙ c .if1 .taken)
-
-beyond-requires-2 : tie.Need-beyond-requires-2
-beyond-requires-2 c κs = search needs
 
 returns-2 : tie.Need-returns-2
 returns-2 c = simp (sym (c .before .before .before .beyond .ensures .0) ∙ c .before .before .if1 .left, sym (c .before .beyond2 .ensures .0) ∙ c .if2 .taken)
@@ -25,9 +19,6 @@ mul-if3 c =
 
 returns-3 : tie.Need-returns-3
 returns-3 c = simp (sym (c .before .before .before .before .beyond .ensures .0) ∙ c .before .before .before .if1 .left, sym (c .before .before .beyond2 .ensures .0) ∙ c .before .if2 .left, ne-eqb _ _ (c .if3 .taken))
-
-mark-bytes-requires : tie.Need-mark-bytes-requires
-mark-bytes-requires c κs = search needs
 
 returns-4 : tie.Need-returns-4
 returns-4 c = simp (sym (c .before .before .before .before .before .before .beyond .ensures .0) ∙ c .before .before .before .before .before .if1 .left, sym (c .before .before .before .before .beyond2 .ensures .0) ∙ c .before .before .before .if2 .left, eq-eqb _ _ (c .before .before .if3 .left), ne-eqb _ _ (rw (c .before .mark-bytes .ensures) at (c .if4 .taken)))
@@ -42,13 +33,13 @@ pub check-shape-spec : {M : Type 1} → statement M
 check-shape-spec =
     tie.close
     (tie.spec
-    beyond-requires
+    (λ c κs. search needs)
     returns
-    beyond-requires-2
+    (λ c κs. search needs)
     returns-2
     mul-if3
     returns-3
-    mark-bytes-requires
+    (λ c κs. search needs)
     returns-4
     returns-5
     returns-6)

@@ -5,18 +5,6 @@ use borrow.Author.Needs.{needs}
 use Rattle.rules.proofs.check_table.Statement.{statement}
 use Rattle.rules.proofs.check_table.Tie as tie
 
-check-shape-requires : tie.Need-check-shape-requires
-check-shape-requires c κs = search needs
-
-enum-known-number : tie.Need-enum-known-number
-enum-known-number c = search needs
-
-enum-told : tie.Need-enum-told
-enum-told c = search needs
-
-check-contents-requires : tie.Need-check-contents-requires
-check-contents-requires c κs = search needs
-
 returns : tie.Need-returns
 returns c =
     let a = c .before .before .before .before .before .before .args in
@@ -36,9 +24,9 @@ pub check-table-spec : {M : Type 1} → statement M
 check-table-spec =
     tie.close
     (tie.spec
-    check-shape-requires
-    enum-known-number
-    enum-told
-    check-contents-requires
+    (λ c κs. search needs)
+    (λ c. search needs)
+    (λ c. search needs)
+    (λ c κs. search needs)
     returns
     returns-2)

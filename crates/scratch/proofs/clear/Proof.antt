@@ -23,18 +23,6 @@ loop-holds c =
     let none : a .from - a .from ≡ 0 = omega arith in
     (omega arith, omega arith, sym (over-none (a .cells .now) (a .from)) ∙ ap (λ (n : ℕ). over (a .cells .now) (a .from) (replicate n 0)) (sym none), refl)
 
-mul-cells : tie.Need-mul-cells Inv-loop μ-loop
-mul-cells c = omega arith
-
-slice-write-cells : tie.Need-slice-write-cells Inv-loop μ-loop
-slice-write-cells c = omega arith
-
-add-i : tie.Need-add-i Inv-loop μ-loop
-add-i c = omega arith
-
-loop-less : tie.Need-loop-less Inv-loop μ-loop
-loop-less c = omega arith
-
 loop-again : tie.Need-loop-again Inv-loop μ-loop
 loop-again c =
     let a = c .before .before .before .args in
@@ -62,10 +50,10 @@ clear-spec =
     μ-loop
     returns
     loop-holds
-    mul-cells
-    slice-write-cells
-    add-i
-    loop-less
+    (λ c. omega arith)
+    (λ c. omega arith)
+    (λ c. omega arith)
+    (λ c. omega arith)
     loop-again
     same-length
     returns-2)

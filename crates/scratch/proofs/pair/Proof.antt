@@ -6,32 +6,14 @@ use borrow.Author.Needs.{needs}
 use Rattle.scratch.proofs.pair.Statement.{statement}
 use Rattle.scratch.proofs.pair.Tie as tie
 
-row-start-requires : tie.Need-row-start-requires
-row-start-requires c κs = search needs
-
-wide-requires : tie.Need-wide-requires
-wide-requires c κs = search needs
-
 add-cell : tie.Need-add-cell
 add-cell c = omega (arith, triangle-bound (c .before .before .before .before .args .q) (omega arith))
-
-cell-requires : tie.Need-cell-requires
-cell-requires c κs = search needs
 
 returns : tie.Need-returns
 returns c = c .cell .ensures ∙ greater (c .before .before .before .before .before .args .scratch .now) (c .before .before .before .if1 .taken) (c .before .before .row-start .ensures) (c .before .wide .ensures)
 
-row-start-requires-2 : tie.Need-row-start-requires-2
-row-start-requires-2 c κs = search needs
-
-wide-requires-2 : tie.Need-wide-requires-2
-wide-requires-2 c κs = search needs
-
 add-cell-2 : tie.Need-add-cell-2
 add-cell-2 c = omega (arith, triangle-bound (c .before .before .before .before .before .args .p) (omega arith))
-
-cell-requires-2 : tie.Need-cell-requires-2
-cell-requires-2 c κs = search needs
 
 returns-2 : tie.Need-returns-2
 returns-2 c = c .cell2 .ensures ∙ less (c .before .before .before .before .before .before .args .scratch .now) (c .before .before .before .if2 .taken) (c .before .before .row-start2 .ensures) (c .before .wide2 .ensures)
@@ -43,14 +25,14 @@ pub pair-spec : {M : Type 1} → statement M
 pair-spec =
     tie.close
     (tie.spec
-    row-start-requires
-    wide-requires
+    (λ c κs. search needs)
+    (λ c κs. search needs)
     add-cell
-    cell-requires
+    (λ c κs. search needs)
     returns
-    row-start-requires-2
-    wide-requires-2
+    (λ c κs. search needs)
+    (λ c κs. search needs)
     add-cell-2
-    cell-requires-2
+    (λ c κs. search needs)
     returns-2
     returns-3)

@@ -4,20 +4,8 @@ use borrow.Author.Needs.{needs}
 use Rattle.scratch.proofs.put.Statement.{statement}
 use Rattle.scratch.proofs.put.Tie as tie
 
-mul-cells : tie.Need-mul-cells
-mul-cells c = search needs
-
-slice-write-cells : tie.Need-slice-write-cells
-slice-write-cells c = search needs
-
-same-length : tie.Need-same-length
-same-length c = search needs
-
-returns : tie.Need-returns
-returns c = search needs
-
 returns-2 : tie.Need-returns-2
 returns-2 c = sym (set-out (c .before .args .cells .now) (c .before .args .at) (c .before .args .x) (c .if1 .left))
 
 pub put-spec : {M : Type 1} → statement M
-put-spec = tie.close (tie.spec mul-cells slice-write-cells same-length returns returns-2)
+put-spec = tie.close (tie.spec (λ c. search needs) (λ c. search needs) (λ c. search needs) (λ c. search needs) returns-2)

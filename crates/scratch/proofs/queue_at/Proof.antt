@@ -4,17 +4,8 @@ use borrow.Author.Needs.{needs}
 use Rattle.scratch.proofs.queue_at.Statement.{statement}
 use Rattle.scratch.proofs.queue_at.Tie as tie
 
-row-start-requires : tie.Need-row-start-requires
-row-start-requires c κs = search needs
-
-wide-requires : tie.Need-wide-requires
-wide-requires c κs = search needs
-
 add-result : tie.Need-add-result
 add-result c = omega (arith, triangle-bound (c .before .before .args .rows) (omega arith))
 
-returns : tie.Need-returns
-returns c = search needs
-
 pub queue-at-spec : {M : Type 1} → statement M
-queue-at-spec = tie.close (tie.spec row-start-requires wide-requires add-result returns)
+queue-at-spec = tie.close (tie.spec (λ c κs. search needs) (λ c κs. search needs) add-result (λ c. search needs))

@@ -6,9 +6,6 @@ use borrow.Author.Needs.{needs}
 use Rattle.scratch.proofs.row_start.Statement.{statement}
 use Rattle.scratch.proofs.row_start.Tie as tie
 
-wide-requires : tie.Need-wide-requires
-wide-requires c κs = search needs
-
 mul-result : tie.Need-mul-result
 mul-result c = omega (arith, c .wide .ensures, product-bound (c .wide .result) (c .wide .result) (omega arith) (omega arith))
 
@@ -19,4 +16,4 @@ returns : tie.Need-returns
 returns c = triangle-value (c .wide .result) ∙ ap triangle (c .wide .ensures)
 
 pub row-start-spec : {M : Type 1} → statement M
-row-start-spec = tie.close (tie.spec wide-requires mul-result sub-result returns)
+row-start-spec = tie.close (tie.spec (λ c κs. search needs) mul-result sub-result returns)

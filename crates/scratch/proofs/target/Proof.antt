@@ -6,23 +6,11 @@ use borrow.Author.Needs.{needs}
 use Rattle.scratch.proofs.target.Statement.{statement}
 use Rattle.scratch.proofs.target.Tie as tie
 
-wide-requires : tie.Need-wide-requires
-wide-requires c κs = search needs
-
-wide-requires-2 : tie.Need-wide-requires-2
-wide-requires-2 c κs = search needs
-
 mul-cell : tie.Need-mul-cell
 mul-cell c = omega (arith, product-bound (c .before .wide .result) (c .wide2 .result) (omega arith) (omega arith))
 
-wide-requires-3 : tie.Need-wide-requires-3
-wide-requires-3 c κs = search needs
-
 add-cell : tie.Need-add-cell
 add-cell c = omega (arith, product-bound (c .before .before .wide .result) (c .before .wide2 .result) (omega arith) (omega arith))
-
-cell-requires : tie.Need-cell-requires
-cell-requires c κs = search needs
 
 returns : tie.Need-returns
 returns c =
@@ -33,10 +21,10 @@ pub target-spec : {M : Type 1} → statement M
 target-spec =
     tie.close
     (tie.spec
-    wide-requires
-    wide-requires-2
+    (λ c κs. search needs)
+    (λ c κs. search needs)
     mul-cell
-    wide-requires-3
+    (λ c κs. search needs)
     add-cell
-    cell-requires
+    (λ c κs. search needs)
     returns)

@@ -6,12 +6,6 @@ use borrow.Author.Needs.{needs}
 use Rattle.scratch.proofs.weight.Statement.{statement}
 use Rattle.scratch.proofs.weight.Tie as tie
 
-cast-result : tie.Need-cast-result
-cast-result c = search needs
-
-shr-result : tie.Need-shr-result
-shr-result c = search needs
-
 cast-result-2 : tie.Need-cast-result-2
 cast-result-2 c = omega (arith, and-le-r (c .args .mask / 2 ^ (c .args .event % 32)) 1)
 
@@ -19,4 +13,4 @@ returns : tie.Need-returns
 returns c = and-mask _ 1
 
 pub weight-spec : {M : Type 1} → statement M
-weight-spec = tie.close (tie.spec cast-result shr-result cast-result-2 returns)
+weight-spec = tie.close (tie.spec (λ c. search needs) (λ c. search needs) cast-result-2 returns)

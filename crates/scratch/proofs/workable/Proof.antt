@@ -6,27 +6,12 @@ use borrow.Author.Needs.{needs}
 use Rattle.scratch.proofs.workable.Statement.{statement}
 use Rattle.scratch.proofs.workable.Tie as tie
 
-winch-requires : tie.Need-winch-requires
-winch-requires c κs = search needs
-
-check-table-requires : tie.Need-check-table-requires
-check-table-requires c κs = search needs
-
-enum-known-number : tie.Need-enum-known-number
-enum-known-number c = search needs
-
-enum-told : tie.Need-enum-told
-enum-told c = search needs
-
 cast-needed : tie.Need-cast-needed
 cast-needed c =
     let a = c .before .before .before .before .before .before .args in
     let v = c .before .before .check-table in
     let w = c .before .before .before .winch in
     record { fits = omega (arith, small-rows (tableOf (a .rows) (a .events) (a .start) (a .cells .now) (a .marks .now)) (w .result) (v .result) (w .ensures) (v .ensures) (c .enum-told .given .1)) }
-
-needed-requires : tie.Need-needed-requires
-needed-requires c κs = search needs
 
 returns : tie.Need-returns
 returns c =
@@ -46,11 +31,11 @@ pub workable-spec : {M : Type 1} → statement M
 workable-spec =
     tie.close
     (tie.spec
-    winch-requires
-    check-table-requires
-    enum-known-number
-    enum-told
+    (λ c κs. search needs)
+    (λ c κs. search needs)
+    (λ c. search needs)
+    (λ c. search needs)
     cast-needed
-    needed-requires
+    (λ c κs. search needs)
     returns
     returns-2)
