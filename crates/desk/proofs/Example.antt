@@ -9,7 +9,7 @@ use Rattle.tables.specs.Lengths.{least, distance, lead, reached, depth}
 use Rattle.tables.specs.Reduction.{similarBy, level, levels, order, similar, kept, fold, met, numbering, number, renumbered, fateOf, reduced, records}
 use Rattle.marks.specs.Marks.{spareSet}
 use Rattle.image_reader.specs.Read.{imageRead}
-use Rattle.listing.specs.Text.{text, decimalIn, decimal, joined}
+use Rattle.text.specs.Text.{text, decimalIn, decimal, joined}
 use Rattle.listing.specs.Listing.{targetWord, markWords, rowLine, depthWords, fateWords, recordLine, listing}
 use Rattle.desk.specs.Printed.{reductionText, imageText, printed}
 

@@ -26,8 +26,10 @@ use Rattle.image_reader.specs.Read.{cutRule, targetsRule, atMost, readChecks, i
 use Rattle.image_reader.specs.declared.Read.the-variants as read
 use Rattle.records.specs.declared.Record.{Record}
 use Rattle.reducer.specs.Recorded.{depthOf, fateOf, recordOf}
-use Rattle.listing.proofs.Short.{Small, SmallDepth, SmallFate, refusal-short, listing-short}
-use Rattle.listing.specs.Listing.{refusalLine, blank}
+use Rattle.text.specs.Text.{refusalLine}
+use Rattle.text.proofs.Short.{Small, refusal-short}
+use Rattle.listing.proofs.Short.{SmallDepth, SmallFate, listing-short}
+use Rattle.listing.specs.Listing.{blank}
 use Rattle.desk.specs.Printed.{offsetIn, reductionText, textOf, imageText, printed}
 use Rattle.desk.proofs.Few.{whole-rows, few-events, few-targets}
 

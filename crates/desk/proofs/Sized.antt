@@ -23,7 +23,7 @@ use Rattle.reduction.specs.declared.Answer.{Answer}
 use Rattle.reduction.specs.declared.Answer.the-variants as answer
 use Rattle.reduction.specs.Reduce.{roomChecks, verdict, answerBy, leftBy, Promise}
 use Rattle.reduction.proofs.Room.{all-fits}
-use Rattle.listing.specs.Text.{joined, decimal, text}
+use Rattle.text.specs.Text.{joined, decimal, text}
 use Rattle.reducer.specs.Recorded.{recordOf, recordsBy}
 use Rattle.desk.specs.Printed.{reductionText}
 use Rattle.listing.specs.Listing.{targetWord, markWords, rowLine, recordLine, blank, listing}

@@ -1,4 +1,4 @@
--- A listing and a refusal as document 01 prints them, computed from the definitions.
+-- A listing as document 01 prints it, computed from the definitions.
 use mathlib.Core.Path.{_≡_, refl}
 use mathlib.Core.List.{[], _∷_}
 use Rattle.records.specs.declared.Record.{Record}
@@ -6,8 +6,8 @@ use Rattle.records.specs.declared.Depth.{Depth}
 use Rattle.records.specs.declared.Depth.the-variants.{Number, Endless}
 use Rattle.records.specs.declared.Fate.{Fate}
 use Rattle.records.specs.declared.Fate.the-variants.{Kept, Unreached}
-use Rattle.listing.specs.Text.{text, decimalIn, decimal, joined}
-use Rattle.listing.specs.Listing.{refusalLine, targetWord, markWords, rowLine, depthWords, fateWords, recordLine, listing}
+use Rattle.text.specs.Text.{text, decimalIn, decimal, joined}
+use Rattle.listing.specs.Listing.{targetWord, markWords, rowLine, depthWords, fateWords, recordLine, listing}
 
 abbrev row : Fate → Depth → Record
 row fate depth = record { depth = depth; fate = fate }
@@ -16,8 +16,3 @@ row fate depth = record { depth = depth; fate = fate }
 pub F : listing 1 1 (0 ∷ []) (0 ∷ []) 2 (row (Kept 0) Endless ∷ row Unreached (Number 0) ∷ []) ≡ text "table 1 1\n0 0 wait\nfolds 2\n0 kept 0 depth endless\n1 unreached\n"
 unfolding decimalIn decimal joined targetWord markWords rowLine depthWords fateWords recordLine listing
 F = refl
-
--- A refusal, with the largest place that there is.
-pub refusal : refusalLine 12 18446744073709551615 ≡ text "refused 12 18446744073709551615\n"
-unfolding decimalIn decimal refusalLine
-refusal = refl

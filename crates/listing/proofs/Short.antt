@@ -1,7 +1,7 @@
--- How long a listing and a refusal are at most, where every number in them is below 100,000.
+-- How long a listing is at most, where every number in it is below 100,000.
 use mathlib.Core.Bool.{Bool, true, false, cond}
 use mathlib.Core.List.{List}
-use Prim.Native.Nat.{ℕ, zero, suc, _+_, _*_, _≤_, _<_}
+use Prim.Native.Nat.{ℕ, _+_, _*_, _≤_, _<_}
 use native.Mathlib.Omega.{arith}
 use lib.Dec.{eqb}
 use lib.ListN.{length, getD, length-append}
@@ -11,24 +11,9 @@ use Rattle.records.specs.declared.Depth.{Depth}
 use Rattle.records.specs.declared.Depth.the-variants.{Number, Endless}
 use Rattle.records.specs.declared.Fate.{Fate}
 use Rattle.records.specs.declared.Fate.the-variants.{Kept, Folded, Unreached}
-use Rattle.listing.specs.Text.{text, decimal, joined}
-use Rattle.listing.specs.Listing.{refusalLine, targetWord, markWords, rowLine, depthWords, fateWords, recordLine, blank, listing}
-use Rattle.listing.proofs.Decimal.{decimal-length}
-
-abbrev pub Small : ℕ → Type 0
-Small n = n < 100000
-
-number-short : (n : ℕ) → Small n → length (decimal n) ≤ 5
-number-short n h = decimal-length 4 n h
-
-pub refusal-short : (number place : ℕ) → Small number → Small place → length (refusalLine number place) ≤ 20
-unfolding refusalLine
-refusal-short number place h g = simp length-append (omega (arith, number-short number h, number-short place g))
-
-joined-short : (n most : ℕ) (f : ℕ → List ℕ) → ((i : ℕ) → i < n → length (f i) ≤ most) → length (joined n f) ≤ n * most
-unfolding joined
-joined-short zero most f h = omega arith
-joined-short (suc n) most f h = omega (arith, length-append (joined n f) (f n), joined-short n most f (λ i l. h i (omega arith)), h n (omega arith))
+use Rattle.text.specs.Text.{text}
+use Rattle.listing.specs.Listing.{targetWord, markWords, rowLine, depthWords, fateWords, recordLine, blank, listing}
+use Rattle.text.proofs.Short.{Small, number-short, joined-short}
 
 mark-short : (mark : ℕ) → length (markWords mark) ≤ 7
 unfolding markWords
