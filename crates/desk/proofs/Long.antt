@@ -3,22 +3,22 @@ use mathlib.Core.Path.{_≡_, refl, sym, ap, _∙_}
 use mathlib.Core.Bool.{not}
 use mathlib.Core.List.{List, [], _∷_, _++_}
 use Prim.Native.Nat.{ℕ, _+_, _*_, _/_, _%_, _≤_, _<_}
-use native.Mathlib.Nat.{div-add-mod, mul-le-mul}
 use native.Mathlib.Omega.{arith}
-use borrow.Author.Tests.{le-ltb, lt-ltb, ltb-false, eqb-true, not-false}
+use borrow.Author.Tests.{le-ltb, lt-ltb, ltb-false}
 use lib.Dec.{eqb, leb, ltb}
 use lib.ListN.{length, getD, drop, length-append, length-drop, List·getD-append}
 use lib.Seq.{drop-append-le}
 use Rattle.tables.specs.Lists.{position}
 use Rattle.tables.proofs.Lists.{tabulate-same}
-use Rattle.rules.specs.Rules.{rule, andThen, judged, winch, outside, rowsRule, eventsRule, rowRule, spareRule}
+use Rattle.rules.specs.Rules.{rule, andThen, judged, winch, rowsRule, eventsRule, rowRule, spareRule}
 use Rattle.rules.specs.declared.Verdict.{Verdict}
 use Rattle.rules.specs.declared.Verdict.the-variants.{Fine, Refused}
-use Rattle.rules.proofs.Checks.{unbroken, passed, inside}
+use Rattle.rules.proofs.Checks.{unbroken, passed}
 use Rattle.images.specs.Image.{numberAt, cellsAt, targetsAt, startAt}
 use Rattle.image_reader.specs.Read.{atMost, cutRule, targetsRule, readChecks, imageRead, answered}
 use Rattle.image_reader.specs.declared.Read.the-variants as read
 use Rattle.desk.specs.Printed.{offsetIn, textOf, imageText, printed}
+use Rattle.desk.proofs.Few.{few-targets}
 
 -- Two rows of checks that say the same first, and go on the same if that is fine.
 first-same : {u v x y : Verdict} → u ≡ v → (v ≡ Fine → x ≡ y) → andThen u x ≡ andThen v y
@@ -70,9 +70,6 @@ module _ (b rest : List ℕ) (long : 8217 ≤ length b) where
       too-long : (d : List ℕ) → 8217 ≤ length d → rule 10 (ltb (startAt rows count + 2 + 2) (length d)) 0 ≡ Refused 10 0
       too-long d h = rw (lt-ltb (startAt rows count + 2 + 2) (length d) (omega arith))
 
-  few-targets : (r n : ℕ) → n % r ≡ 0 → r ≤ 128 → n / r ≤ 32 → n ≤ 4096
-  few-targets r n e h g = omega (arith, div-add-mod n r, mul-le-mul h g)
-
   -- The checks from the targets on; those from the marks on; all of them.
   abbrev lastChecks : List ℕ → ℕ → List Verdict
   lastChecks d n =
@@ -114,9 +111,7 @@ module _ (b rest : List ℕ) (long : 8217 ≤ length b) where
       first-same (cut-same (targetsAt rows + 2) (omega arith)) (λ e₂.
       first-same {u = rule 9 (not (eqb (count few % rows) 0)) 0} refl (λ e₃.
       first-same {u = eventsRule winch (count few / rows)} refl (λ e₄.
-      let even : count few % rows ≡ 0 = eqb-true (count few % rows) 0 (not-false (eqb (count few % rows) 0) (unbroken 9 (not (eqb (count few % rows) 0)) 0 e₃)) in
-      let most = inside 32 (count few / rows) .0 (unbroken 2 (outside 32 (count few / rows)) 0 e₄) in
-      last-same few (few-targets rows (count few) even few (most .1)))))))
+      last-same few (few-targets rows (count few) e₃ e₄ few))))))
 
   all-same : judged (allChecks c) ≡ judged (allChecks b)
   all-same =
@@ -132,9 +127,7 @@ module _ (b rest : List ℕ) (long : 8217 ≤ length b) where
   refuses Fine e =
       let at = passed (allChecks b) e in
       let few : rows ≤ 128 = ltb-false 128 rows (unbroken 12 (ltb 128 rows) 0 (at 2)) in
-      let even : count few % rows ≡ 0 = eqb-true (count few % rows) 0 (not-false (eqb (count few % rows) 0) (unbroken 9 (not (eqb (count few % rows) 0)) 0 (at 6))) in
-      let most = inside 32 (count few / rows) .0 (unbroken 2 (outside 32 (count few / rows)) 0 (at 7)) in
-      let small = few-targets rows (count few) even few (most .1) in
+      let small = few-targets rows (count few) (at 6) (at 7) few in
       let end : length b ≤ startAt rows (count few) + 2 + 2 = ltb-false _ _ (unbroken 10 (ltb (startAt rows (count few) + 2 + 2) (length b)) 0 (at 14)) in
       absurd (omega arith)
 

@@ -8,7 +8,6 @@ use lib.Arith.{digits-lt}
 use lib.ListN.{length, getD, drop, List·getD-append, length-map}
 use Rattle.tables.specs.Lists.{over}
 use Rattle.tables.specs.Table.{Table, Offset, Valid, markOf, unit}
-use Rattle.tables.specs.Reduction as spec
 use Rattle.tables.specs.Reduction.{reduced, records}
 use Rattle.tables.proofs.Over.{over-inside}
 use Rattle.tables.proofs.Theorems.{unit-light, never-more, records-length, valid, same-events}
@@ -20,7 +19,7 @@ use Rattle.reduction.specs.declared.Answer.{Answer}
 use Rattle.reduction.specs.declared.Answer.the-variants as answer
 use Rattle.reduction.specs.Reduce.{verdict, answerBy, leftBy, Promise}
 use Rattle.reduction.proofs.Fakes.{accepts}
-use Rattle.listing.specs.Text.{joined, decimal, text}
+use Rattle.text.specs.Text.{joined, decimal, text}
 use Rattle.reducer.specs.Recorded.{recordOf, recordsBy}
 use Rattle.desk.specs.Printed.{reductionText}
 use Rattle.listing.specs.Listing.{targetWord, markWords, rowLine, recordLine, blank, listing}

@@ -20,7 +20,7 @@ use Rattle.image_reader.specs.Read.{atMost, imageRead, roomed, readBy, cellsIn,
 use Rattle.image_reader.specs.declared.Read.{Read}
 use Rattle.image_reader.specs.declared.Read.the-variants as read
 use Rattle.image_reader.proofs.RoundTrip.{read-valid}
-use Rattle.listing.specs.Listing.{refusalLine}
+use Rattle.text.specs.Text.{refusalLine}
 use Rattle.desk.specs.Printed.{offsetIn, reductionText, textOf, imageText, printed}
 
 -- What is read is what the image says: there is room for 4,096 cells and 16 mark bytes.

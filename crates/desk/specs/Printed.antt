@@ -12,7 +12,8 @@ use Rattle.image_reader.specs.Read.{atMost, imageRead}
 use Rattle.image_reader.specs.declared.Read.{Read}
 use Rattle.image_reader.specs.declared.Read.the-variants as read
 use Rattle.reducer.specs.Recorded.{recordOf}
-use Rattle.listing.specs.Listing.{listing, refusalLine}
+use Rattle.text.specs.Text.{refusalLine}
+use Rattle.listing.specs.Listing.{listing}
 
 -- "A 16-bit offset, low byte first (65,535 is none)."
 abbrev pub offsetIn : List ℕ → Offset

@@ -6,7 +6,7 @@ ghost use lib.Dec.{eqb};
 ghost use lib.ListN.{length};
 ghost use Rattle.tables.specs.Table.{Valid, offset, none};
 ghost use Rattle.rules.specs.Rules.{tableOf, offsetOf};
-ghost use Rattle.listing.specs.Text.{filled};
+ghost use Rattle.text.specs.Text.{filled, Puts};
 ghost use Rattle.desk.specs.Printed.{reductionText, imageText, printed};
 ghost use Rattle.listing.specs.Listing.{blank as blankRecord};
 use image_reader::Read;
@@ -45,8 +45,7 @@ fn write_reduction(
     out: &mut [u8],
 ) -> usize
     requires { ⌜ Valid (tableOf rows events start (now cells) (now marks)) × (rows ≤ 128) ⌝ }
-    ensures { λ r. ⌜ (now (out .exit) ≡ filled (now (out .entry)) (reductionText (offsetOf offset) (tableOf rows events start (now (cells .entry)) (now (marks .entry)))))
-        × (r ≡ min (length (reductionText (offsetOf offset) (tableOf rows events start (now (cells .entry)) (now (marks .entry))))) (length (now (out .entry)))) ⌝ }
+    ensures { λ r. ⌜ Puts (now (out .entry)) 0 (reductionText (offsetOf offset) (tableOf rows events start (now (cells .entry)) (now (marks .entry)))) (now (out .exit)) r ⌝ }
 {
     let mut newcells = [0u16; 4096];
     let mut newmarks = [0u8; 16];
@@ -66,28 +65,28 @@ fn write_reduction(
     let answer = done.answer;
     let records = done.records;
     match answer {
-        Answer::Refused(number, place) => listing::write_refusal(number, place, out),
-        Answer::Reduced(left) => listing::write_listing(
+        Answer::Refused(number, place) => text::put_refusal(out, 0, number, place),
+        Answer::Reduced(left) => listing::put_listing(
+            out,
+            0,
             left as u16,
             events as u16,
             &newcells,
             &newmarks,
             rows as u16,
             records,
-            out,
         ),
     }
 }
 
 // Writes the text for an image.
 fn write_image_text(offset: Offset, image: &[u8], out: &mut [u8]) -> usize
-    ensures { λ r. ⌜ (now (out .exit) ≡ filled (now (out .entry)) (imageText (offsetOf offset) (now (image .entry))))
-        × (r ≡ min (length (imageText (offsetOf offset) (now (image .entry)))) (length (now (out .entry)))) ⌝ }
+    ensures { λ r. ⌜ Puts (now (out .entry)) 0 (imageText (offsetOf offset) (now (image .entry))) (now (out .exit)) r ⌝ }
 {
     let mut cells = [0u16; 4096];
     let mut marks = [0u8; 16];
     match image_reader::read_within(rules::winch(), 128, image, &mut cells, &mut marks) {
-        Read::Refused(number, place) => listing::write_refusal(number, place, out),
+        Read::Refused(number, place) => text::put_refusal(out, 0, number, place),
         Read::Table(rows, events, start) => {
             let count = rows * events;
             let bytes = marks::mark_bytes(rows);
@@ -110,7 +109,7 @@ pub fn write_text(input: &[u8], out: &mut [u8]) -> usize
         × (r ≡ min (length (printed (now (input .entry)))) (length (now (out .entry)))) ⌝ }
 {
     if input.len() < 2 {
-        return listing::write_refusal(8, 0, out);
+        return text::put_refusal(out, 0, 8, 0);
     }
     let offset = offset_of(input[0], input[1]);
     write_image_text(offset, &input[2..], out)

@@ -1,3 +1,2 @@
-pub mod Buffer
-pub mod Decimal
 pub mod Example
+pub mod Short

@@ -10,11 +10,7 @@ use Rattle.records.specs.declared.Depth.{Depth}
 use Rattle.records.specs.declared.Depth.the-variants.{Number, Endless}
 use Rattle.records.specs.declared.Fate.{Fate}
 use Rattle.records.specs.declared.Fate.the-variants.{Kept, Folded, Unreached}
-use Rattle.listing.specs.Text.{text, decimal, joined}
-
--- "A refusal prints only `refused`, its number and its place."
-unfoldable pub refusalLine : ℕ → ℕ → List ℕ
-refusalLine number place = text "refused " ++ decimal number ++ text " " ++ decimal place ++ text "\n"
+use Rattle.text.specs.Text.{text, decimal, joined}
 
 -- The target of a row and an event, after a space.
 unfoldable pub targetWord : ℕ → List ℕ → ℕ → ℕ → List ℕ

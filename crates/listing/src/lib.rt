@@ -1,61 +1,21 @@
-// The text that `reduce` prints, as bytes in a lent buffer. Text is written as far as there is room.
+// The listing that `reduce` prints, as bytes in a lent buffer, from a place on and as far as there is room. Each function answers the place after what it wrote.
 ghost use mathlib.Core.Path.{_≡_};
-ghost use mathlib.Core.List.{[], _∷_, _++_};
-ghost use Prim.Native.Nat.{min};
-ghost use lib.ListN.{length, getD};
-ghost use Rattle.listing.specs.Text.{text, decimal, joined, filled, Puts};
-ghost use Rattle.listing.specs.Listing.{refusalLine, targetWord, markWords, rowLine, depthWords, fateWords, recordLine, blank, listing};
+ghost use mathlib.Core.List.{_++_};
+ghost use lib.ListN.{getD};
+ghost use Rattle.text.specs.Text.{text, decimal, joined, Puts};
+ghost use Rattle.listing.specs.Listing.{targetWord, markWords, rowLine, depthWords, fateWords, recordLine, blank, listing};
 use records::Depth;
 use records::Fate;
 use records::Record;
-
-// Writes a byte at a place, if there is room, and answers the next place.
-fn put_byte(out: &mut [u8], at: usize, byte: u8) -> usize
-    ensures { λ r. ⌜ Puts (now (out .entry)) at (byte ∷ []) (now (out .exit)) r ⌝ }
-{
-    if at < out.len() {
-        out[at] = byte;
-        return at + 1;
-    }
-    at
-}
-
-// Writes words.
-fn put_text(out: &mut [u8], at: usize, words: &[u8]) -> usize
-    ensures { λ r. ⌜ Puts (now (out .entry)) at (now (words .entry)) (now (out .exit)) r ⌝ }
-{
-    let mut next = at;
-    let mut i = 0;
-    while i < words.len() {
-        next = put_byte(out, next, words[i]);
-        i += 1;
-    }
-    next
-}
-
-// Writes a number in decimal digits.
-fn put_number(out: &mut [u8], at: usize, n: usize) -> usize
-    ensures { λ r. ⌜ Puts (now (out .entry)) at (decimal n) (now (out .exit)) r ⌝ }
-{
-    if n < 10 {
-        return put_byte(out, at, 48 + n as u8);
-    }
-    let next = put_number(out, at, n / 10);
-    put_byte(out, next, 48 + (n % 10) as u8)
-}
-
-// Writes a 16-bit number.
-fn put_cell(out: &mut [u8], at: usize, x: u16) -> usize
-    ensures { λ r. ⌜ Puts (now (out .entry)) at (decimal x) (now (out .exit)) r ⌝ }
-{
-    put_number(out, at, x as usize)
-}
+use text::put_byte;
+use text::put_cell;
+use text::put_text;
 
 // Writes the first line.
-fn put_head(out: &mut [u8], rows: u16, events: u16) -> usize
-    ensures { λ r. ⌜ Puts (now (out .entry)) 0 (text "table " ++ decimal rows ++ text " " ++ decimal events ++ text "\n") (now (out .exit)) r ⌝ }
+fn put_head(out: &mut [u8], at: usize, rows: u16, events: u16) -> usize
+    ensures { λ r. ⌜ Puts (now (out .entry)) at (text "table " ++ decimal rows ++ text " " ++ decimal events ++ text "\n") (now (out .exit)) r ⌝ }
 {
-    let worded = put_text(out, 0, b"table ");
+    let worded = put_text(out, at, b"table ");
     let numbered = put_cell(out, worded, rows);
     let spaced = put_byte(out, numbered, b' ');
     let counted = put_cell(out, spaced, events);
@@ -179,31 +139,20 @@ fn put_records(out: &mut [u8], at: usize, given: u16, records: [Record; 1024]) -
     next
 }
 
-// Writes a refusal, and answers its length or, where there is not room for all of it, the buffer's.
-pub fn write_refusal(number: usize, place: usize, out: &mut [u8]) -> usize
-    ensures { λ r. ⌜ (now (out .exit) ≡ filled (now (out .entry)) (refusalLine number place)) × (r ≡ min (length (refusalLine number place)) (length (now (out .entry)))) ⌝ }
-{
-    let worded = put_text(out, 0, b"refused ");
-    let numbered = put_number(out, worded, number);
-    let spaced = put_byte(out, numbered, b' ');
-    let placed = put_number(out, spaced, place);
-    put_byte(out, placed, b'\n')
-}
-
-// Writes a reduced table and the records of the given rows, and answers the text's length or, where there is not room for all of it, the buffer's.
-pub fn write_listing(
+// Writes a reduced table and the records of the given rows.
+pub fn put_listing(
+    out: &mut [u8],
+    at: usize,
     rows: u16,
     events: u16,
     cells: &[u16],
     marks: &[u8],
     given: u16,
     records: [Record; 1024],
-    out: &mut [u8],
 ) -> usize
-    ensures { λ r. ⌜ (now (out .exit) ≡ filled (now (out .entry)) (listing rows events (now (cells .entry)) (now (marks .entry)) given records))
-        × (r ≡ min (length (listing rows events (now (cells .entry)) (now (marks .entry)) given records)) (length (now (out .entry)))) ⌝ }
+    ensures { λ r. ⌜ Puts (now (out .entry)) at (listing rows events (now (cells .entry)) (now (marks .entry)) given records) (now (out .exit)) r ⌝ }
 {
-    let tabled = put_head(out, rows, events);
+    let tabled = put_head(out, at, rows, events);
     let listed = put_rows(out, tabled, rows, events, cells, marks);
     let worded = put_text(out, listed, b"folds ");
     let counted = put_cell(out, worded, given);

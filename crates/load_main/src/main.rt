@@ -1,9 +1,8 @@
 // The largest tables: 1,024 rows of 32 events as a chain, a cycle and a random table. What is printed is the new row count of each.
-use printing::print_number;
-use printing::print_refusal;
-use printing::print_text;
+use printing::put_line;
 use reduction::Answer;
 use rules::Offset;
+use text::put_refusal;
 
 // The next state of Marsaglia's xorshift, with shifts 13 left, 17 right, 5 left.
 fn next(state: u32) -> u32 {
@@ -49,29 +48,39 @@ fn fill_marks(marks: &mut [u8], seed: u32) {
     }
 }
 
+fn put_answer(out: &mut [u8], name: &[u8], answer: Answer) -> usize {
+    match answer {
+        Answer::Reduced(rows) => put_line(out, 0, name, &[rows]),
+        Answer::Refused(number, place) => put_refusal(out, 0, number, place),
+    }
+}
+
+// Prints a table's answer as soon as it is there, so that a run shows progress.
+fn print_answer(name: &[u8], answer: Answer) {
+    let mut out = io::large_buffer();
+    let n = put_answer(&mut out, name, answer);
+    printing::print(&out, n);
+}
+
 // Reduces a table of 1,024 rows and 32 events, and prints the new row count.
 fn reduce(name: &[u8], offset: Offset, cells: &[u16], marks: &[u8]) {
     let mut newcells = [0u16; 32768];
     let mut newmarks = [0u8; 128];
     let mut scratch = [0u16; 527872];
-    print_text(name);
-    match reduction::reduce_table(
-        offset,
-        1024,
-        32,
-        0,
-        cells,
-        marks,
-        &mut newcells,
-        &mut newmarks,
-        &mut scratch,
-    ) {
-        Answer::Reduced(rows) => {
-            print_number(rows);
-            print_text(b"\n");
-        }
-        Answer::Refused(number, place) => print_refusal(number, place),
-    }
+    print_answer(
+        name,
+        reduction::reduce_table(
+            offset,
+            1024,
+            32,
+            0,
+            cells,
+            marks,
+            &mut newcells,
+            &mut newmarks,
+            &mut scratch,
+        ),
+    );
 }
 
 fn main() {

@@ -1,56 +1,85 @@
-// What the test programs print with. What a program prints is compared with a stored text; no contract speaks of it.
+// What the test programs print with: lines put into a lent buffer from a place on, as `text` puts their parts, and the buffer printed.
+ghost use mathlib.Core.Path.{_≡_};
+ghost use mathlib.Core.List.{_++_};
+ghost use Prim.Native.Nat.{min};
+ghost use lib.ListN.{length};
+ghost use Rattle.text.specs.Text.{text, decimal, Puts};
+ghost use Rattle.printing.specs.Lines.{line};
 use libc::STDOUT_FILENO;
-
-// A word or a line's end.
-pub fn print_text(text: &[u8]) {
-    io::write_all(STDOUT_FILENO, text);
-}
+use text::put_byte;
+use text::put_number;
+use text::put_text;
 
 // A number after a space.
-pub fn print_number(n: usize) {
-    io::write_all(STDOUT_FILENO, b" ");
-    io::print_decimal(STDOUT_FILENO, n as u64);
+fn put_spaced(out: &mut [u8], at: usize, n: usize) -> usize
+    ensures { λ r. ⌜ Puts (now (out .entry)) at (text " " ++ decimal n) (now (out .exit)) r ⌝ }
+{
+    let next = put_byte(out, at, b' ');
+    put_number(out, next, n)
 }
 
-// A number that begins a line.
-pub fn print_first(n: usize) {
-    io::print_decimal(STDOUT_FILENO, n as u64);
+// A word and numbers.
+pub fn put_line(out: &mut [u8], at: usize, word: &[u8], numbers: &[usize]) -> usize
+    ensures { λ r. ⌜ Puts (now (out .entry)) at (line (now (word .entry)) (now (numbers .entry))) (now (out .exit)) r ⌝ }
+{
+    let mut next = put_text(out, at, word);
+    let mut i = 0;
+    while i < numbers.len() {
+        next = put_spaced(out, next, numbers[i]);
+        i += 1;
+    }
+    put_byte(out, next, b'\n')
 }
 
-// A refusal, on a line of its own.
-pub fn print_refusal(number: usize, place: usize) {
-    print_text(b"refused");
-    print_number(number);
-    print_number(place);
-    print_text(b"\n");
-}
-
-fn wide(x: u8) -> usize {
+fn wide_byte(x: u8) -> usize
+    ensures { λ r. ⌜ r ≡ x ⌝ }
+{
     x as usize
 }
 
-fn wide16(x: u16) -> usize {
+// The numbers of bytes.
+pub fn put_bytes(out: &mut [u8], at: usize, bytes: &[u8]) -> usize
+    ensures { λ r. ⌜ Puts (now (out .entry)) at (line (text "bytes") (now (bytes .entry))) (now (out .exit)) r ⌝ }
+{
+    let mut next = put_text(out, at, b"bytes");
+    let mut i = 0;
+    while i < bytes.len() {
+        next = put_spaced(out, next, wide_byte(bytes[i]));
+        i += 1;
+    }
+    put_byte(out, next, b'\n')
+}
+
+fn wide_cell(x: u16) -> usize
+    ensures { λ r. ⌜ r ≡ x ⌝ }
+{
     x as usize
 }
 
-// Bytes, on a line of their own.
-pub fn print_bytes(s: &[u8]) {
-    print_text(b"bytes");
+// The numbers of cells.
+pub fn put_cells(out: &mut [u8], at: usize, cells: &[u16]) -> usize
+    ensures { λ r. ⌜ Puts (now (out .entry)) at (line (text "cells") (now (cells .entry))) (now (out .exit)) r ⌝ }
+{
+    let mut next = put_text(out, at, b"cells");
     let mut i = 0;
-    while i < s.len() {
-        print_number(wide(s[i]));
+    while i < cells.len() {
+        next = put_spaced(out, next, wide_cell(cells[i]));
         i += 1;
     }
-    print_text(b"\n");
+    put_byte(out, next, b'\n')
 }
 
-// Cells, on a line of their own.
-pub fn print_cells(s: &[u16]) {
-    print_text(b"cells");
-    let mut i = 0;
-    while i < s.len() {
-        print_number(wide16(s[i]));
-        i += 1;
-    }
-    print_text(b"\n");
+fn least(a: usize, b: usize) -> usize
+    ensures { λ r. ⌜ r ≡ min a b ⌝ }
+{
+    if a < b { a } else { b }
+}
+
+// Writes the first n bytes of a buffer to standard output, as far as there are so many, and answers how many that are.
+pub fn print(out: &[u8], n: usize) -> usize
+    ensures { λ r. ⌜ r ≡ min n (length (now (out .entry))) ⌝ }
+{
+    let count = least(n, out.len());
+    io::write_all(STDOUT_FILENO, &out[..count]);
+    count
 }

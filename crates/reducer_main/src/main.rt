@@ -1,90 +1,16 @@
-// Document 01's tables to try and its edges, through the reducer with its records.
-use printing::print_first;
-use printing::print_number;
-use printing::print_refusal;
-use printing::print_text;
+// Document 01's tables to try and its edges, through the reducer with its records. Lines are put into one buffer, each
+// function from a place on.
+use listing::put_listing;
+use printing::put_line;
 use records::Depth;
 use records::Fate;
 use records::Record;
+use reducer::Outcome;
 use reduction::Answer;
 use rules::Offset;
 use rules::wide;
-
-fn print_name(name: &[u8]) {
-    print_text(name);
-    print_text(b"\n");
-}
-
-// A new row: its number, targets and mark.
-fn print_row(row: u16, events: u16, cells: &[u16], marks: &[u8]) {
-    print_first(wide(row));
-    let mut event = 0;
-    while event < events {
-        print_number(wide(scratch::target(cells, events, row, event)));
-        event += 1;
-    }
-    if marks::mark(marks, wide(row)) == 1 {
-        print_text(b" ready\n");
-    } else {
-        print_text(b" wait\n");
-    }
-}
-
-// The new table, which has no more rows than the given one.
-fn print_table(left: usize, given: u16, events: u16, cells: &[u16], marks: &[u8]) {
-    print_text(b"table");
-    print_number(left);
-    print_number(wide(events));
-    print_text(b"\n");
-    let rows = records::fewer(given, left);
-    let mut row = 0;
-    while row < rows {
-        print_row(row, events, cells, marks);
-        row += 1;
-    }
-}
-
-fn print_depth(depth: Depth) {
-    print_text(b" depth");
-    match depth {
-        Depth::Number(length) => print_number(wide(length)),
-        Depth::Endless => print_text(b" endless"),
-    }
-}
-
-// A given row: its number, fate and depth; an unreached row has none.
-fn print_record(row: u16, record: Record) {
-    print_first(wide(row));
-    let depth = record.depth;
-    let fate = record.fate;
-    match fate {
-        Fate::Kept(number) => {
-            print_text(b" kept");
-            print_number(wide(number));
-            print_depth(depth);
-        }
-        Fate::Folded(into) => {
-            print_text(b" folded");
-            print_number(wide(into));
-            print_depth(depth);
-        }
-        Fate::Unreached => print_text(b" unreached"),
-    }
-    print_text(b"\n");
-}
-
-// What became of the given rows.
-fn print_records(rows: u16, records: [Record; 1024]) {
-    print_text(b"folds");
-    print_number(wide(rows));
-    print_text(b"\n");
-    let listed = records::fewer(rows, 1024);
-    let mut row = 0;
-    while row < listed {
-        print_record(row, records[wide(row)]);
-        row += 1;
-    }
-}
+use text::put_refusal;
+use text::put_text;
 
 // Whether each of the first cells is 0.
 fn is_clear(cells: &[u16], count: usize) -> bool {
@@ -99,10 +25,11 @@ fn is_clear(cells: &[u16], count: usize) -> bool {
 }
 
 // After a reduction, says so if the scratch for so many rows is not cleared.
-fn check_cleared(scratch: &[u16], rows: u16) {
-    if !is_clear(scratch, scratch::needed(rows)) {
-        print_text(b"scratch not cleared\n");
+fn put_uncleared(out: &mut [u8], at: usize, scratch: &[u16], rows: u16) -> usize {
+    if is_clear(scratch, scratch::needed(rows)) {
+        return at;
     }
+    put_text(out, at, b"scratch not cleared\n")
 }
 
 // Records to be written over.
@@ -113,8 +40,33 @@ fn blank() -> [Record; 1024] {
     }; 1024]
 }
 
+// The listing of a reduction. The new table has no more rows than the given one.
+fn put_case(
+    out: &mut [u8],
+    at: usize,
+    rows: u16,
+    events: u16,
+    cells: &[u16],
+    marks: &[u8],
+    done: Outcome,
+    scratch: &[u16],
+) -> usize {
+    let answer = done.answer;
+    let records = done.records;
+    match answer {
+        Answer::Reduced(left) => {
+            let kept = records::fewer(rows, left);
+            let listed = put_listing(out, at, kept, events, cells, marks, rows, records);
+            put_uncleared(out, listed, scratch, rows)
+        }
+        Answer::Refused(number, place) => put_refusal(out, at, number, place),
+    }
+}
+
 // Reduces a table, and lists the new one and what became of the given rows.
 fn show_case(
+    out: &mut [u8],
+    at: usize,
     name: &[u8],
     offset: Offset,
     rows: u16,
@@ -122,11 +74,11 @@ fn show_case(
     start: u16,
     cells: &[u16],
     marks: &[u8],
-) {
+) -> usize {
     let mut newcells = [9999u16; 64];
     let mut newmarks = [99u8; 8];
     let mut scratch = [9999u16; 64];
-    let outcome = reducer::reduce_recorded(
+    let done = reducer::reduce_recorded(
         offset,
         wide(rows),
         wide(events),
@@ -138,31 +90,43 @@ fn show_case(
         blank(),
         &mut scratch,
     );
-    print_name(name);
-    let answer = outcome.answer;
-    let records = outcome.records;
+    let named = put_line(out, at, name, &[]);
+    put_case(
+        out,
+        named,
+        rows,
+        events,
+        &newcells,
+        &newmarks,
+        done,
+        &scratch,
+    )
+}
+
+fn put_count(out: &mut [u8], at: usize, answer: Answer, scratch: &[u16], rows: u16) -> usize {
     match answer {
         Answer::Reduced(left) => {
-            print_table(left, rows, events, &newcells, &newmarks);
-            print_records(rows, records);
-            check_cleared(&scratch, rows);
+            let counted = put_line(out, at, b"reduced", &[left]);
+            put_uncleared(out, counted, scratch, rows)
         }
-        Answer::Refused(number, place) => print_refusal(number, place),
+        Answer::Refused(number, place) => put_refusal(out, at, number, place),
     }
 }
 
-// Reduces a table at offset 0 from row 0 with the scratch it is lent, and prints the new row count.
+// Reduces a table at offset 0 from row 0 with the scratch it is lent, and gives the new row count.
 fn show_edge(
+    out: &mut [u8],
+    at: usize,
     name: &[u8],
     rows: u16,
     events: u16,
     cells: &[u16],
     marks: &[u8],
     scratch: &mut [u16],
-) {
+) -> usize {
     let mut newcells = [9999u16; 1024];
     let mut newmarks = [99u8; 128];
-    let outcome = reducer::reduce_recorded(
+    let done = reducer::reduce_recorded(
         Offset::Number(0),
         wide(rows),
         wide(events),
@@ -174,93 +138,160 @@ fn show_edge(
         blank(),
         scratch,
     );
-    print_name(name);
-    let answer = outcome.answer;
-    match answer {
-        Answer::Reduced(left) => {
-            print_text(b"reduced");
-            print_number(left);
-            print_text(b"\n");
-            check_cleared(scratch, rows);
-        }
-        Answer::Refused(number, place) => print_refusal(number, place),
-    }
+    let answer = done.answer;
+    let named = put_line(out, at, name, &[]);
+    put_count(out, named, answer, scratch, rows)
 }
 
-// Document 01's tables A to F, with the offset to be tried.
-fn table_a(name: &[u8], offset: Offset) {
-    show_case(name, offset, 3, 1, 0, &[1, 2, 2], &[1]);
+// Document 01's tables A to F, at the offsets to be tried.
+fn table_a(out: &mut [u8], at: usize) -> usize {
+    let cells = [1u16, 2, 2];
+    let zero = show_case(out, at, b"A0", Offset::Number(0), 3, 1, 0, &cells, &[1]);
+    let one = show_case(out, zero, b"A1", Offset::Number(1), 3, 1, 0, &cells, &[1]);
+    show_case(out, one, b"An", Offset::None, 3, 1, 0, &cells, &[1])
 }
 
-fn table_b(name: &[u8], offset: Offset) {
-    show_case(name, offset, 3, 2, 0, &[1, 2, 0, 0, 0, 0], &[2]);
+fn table_b(out: &mut [u8], at: usize) -> usize {
+    let cells = [1u16, 2, 0, 0, 0, 0];
+    let zero = show_case(out, at, b"B at 0", Offset::Number(0), 3, 2, 0, &cells, &[2]);
+    let most = show_case(
+        out,
+        zero,
+        b"B at 65535",
+        Offset::Number(65535),
+        3,
+        2,
+        0,
+        &cells,
+        &[2],
+    );
+    show_case(out, most, b"B at none", Offset::None, 3, 2, 0, &cells, &[2])
 }
 
-fn table_c(name: &[u8], offset: Offset) {
-    show_case(name, offset, 4, 1, 0, &[1, 2, 3, 3], &[2]);
+fn table_c(out: &mut [u8], at: usize) -> usize {
+    let cells = [1u16, 2, 3, 3];
+    let one = show_case(out, at, b"C1", Offset::Number(1), 4, 1, 0, &cells, &[2]);
+    show_case(out, one, b"C2", Offset::Number(2), 4, 1, 0, &cells, &[2])
 }
 
-fn table_d(name: &[u8], offset: Offset) {
-    show_case(name, offset, 4, 2, 3, &[1, 2, 0, 0, 0, 0, 0, 0], &[2]);
+fn table_d(out: &mut [u8], at: usize) -> usize {
+    let cells = [1u16, 2, 0, 0, 0, 0, 0, 0];
+    let zero = show_case(out, at, b"D0", Offset::Number(0), 4, 2, 3, &cells, &[2]);
+    show_case(out, zero, b"D1", Offset::Number(1), 4, 2, 3, &cells, &[2])
 }
 
-fn table_e(name: &[u8], offset: Offset) {
-    show_case(name, offset, 1, 2, 0, &[0, 0], &[0]);
+fn table_e(out: &mut [u8], at: usize) -> usize {
+    let zero = show_case(
+        out,
+        at,
+        b"E at 0",
+        Offset::Number(0),
+        1,
+        2,
+        0,
+        &[0, 0],
+        &[0],
+    );
+    show_case(
+        out,
+        zero,
+        b"E at none",
+        Offset::None,
+        1,
+        2,
+        0,
+        &[0, 0],
+        &[0],
+    )
 }
 
-fn table_f(name: &[u8], offset: Offset) {
-    show_case(name, offset, 2, 1, 0, &[0, 0], &[2]);
+fn table_f(out: &mut [u8], at: usize) -> usize {
+    show_case(out, at, b"F", Offset::Number(0), 2, 1, 0, &[0, 0], &[2])
+}
+
+fn tables(out: &mut [u8]) -> usize {
+    let mut next = table_a(out, 0);
+    next = table_b(out, next);
+    next = table_c(out, next);
+    next = table_d(out, next);
+    next = table_e(out, next);
+    table_f(out, next)
 }
 
 // In the edges every row leads to row 0, and none is ready.
-fn most_rows() {
+fn most_rows(out: &mut [u8], at: usize) -> usize {
     let mut scratch = [9999u16; 527872];
+    let cells = [0u16; 1024];
+    let marks = [0u8; 128];
+    let next = show_edge(out, at, b"1024 rows", 1024, 1, &cells, &marks, &mut scratch);
+    let more_cells = [0u16; 1025];
+    let more_marks = [0u8; 129];
     show_edge(
-        b"1024 rows",
-        1024,
-        1,
-        &[0u16; 1024],
-        &[0u8; 128],
-        &mut scratch,
-    );
-    show_edge(
+        out,
+        next,
         b"1025 rows",
         1025,
         1,
-        &[0u16; 1025],
-        &[0u8; 129],
+        &more_cells,
+        &more_marks,
+        &mut scratch,
+    )
+}
+
+fn most_events(out: &mut [u8], at: usize) -> usize {
+    let mut scratch = [9999u16; 4];
+    let next = show_edge(
+        out,
+        at,
+        b"32 events",
+        1,
+        32,
+        &[0u16; 32],
+        &[0],
         &mut scratch,
     );
+    show_edge(
+        out,
+        next,
+        b"33 events",
+        1,
+        33,
+        &[0u16; 33],
+        &[0],
+        &mut scratch,
+    )
 }
 
-fn most_events() {
-    let mut scratch = [9999u16; 4];
-    show_edge(b"32 events", 1, 32, &[0u16; 32], &[0], &mut scratch);
-    show_edge(b"33 events", 1, 33, &[0u16; 33], &[0], &mut scratch);
-}
-
-fn least_scratch() {
+fn least_scratch(out: &mut [u8], at: usize) -> usize {
     let mut enough = [9999u16; 22];
-    show_edge(b"22 scratch cells", 4, 1, &[0, 0, 0, 0], &[0], &mut enough);
+    let next = show_edge(
+        out,
+        at,
+        b"22 scratch cells",
+        4,
+        1,
+        &[0, 0, 0, 0],
+        &[0],
+        &mut enough,
+    );
     let mut short = [9999u16; 21];
-    show_edge(b"21 scratch cells", 4, 1, &[0, 0, 0, 0], &[0], &mut short);
+    show_edge(
+        out,
+        next,
+        b"21 scratch cells",
+        4,
+        1,
+        &[0, 0, 0, 0],
+        &[0],
+        &mut short,
+    )
 }
 
 fn main() {
-    table_a(b"A0", Offset::Number(0));
-    table_a(b"A1", Offset::Number(1));
-    table_a(b"An", Offset::None);
-    table_b(b"B at 0", Offset::Number(0));
-    table_b(b"B at 65535", Offset::Number(65535));
-    table_b(b"B at none", Offset::None);
-    table_c(b"C1", Offset::Number(1));
-    table_c(b"C2", Offset::Number(2));
-    table_d(b"D0", Offset::Number(0));
-    table_d(b"D1", Offset::Number(1));
-    table_e(b"E at 0", Offset::Number(0));
-    table_e(b"E at none", Offset::None);
-    table_f(b"F", Offset::Number(0));
-    most_rows();
-    most_events();
-    least_scratch();
+    let mut out = io::large_buffer();
+    let mut n = tables(&mut out);
+    n = most_rows(&mut out, n);
+    n = most_events(&mut out, n);
+    n = least_scratch(&mut out, n);
+    printing::print(&out, n);
 }

@@ -3,15 +3,15 @@ use mathlib.Core.Path.{_≡_, refl, sym, ap, _∙_}
 use mathlib.Core.Bool.{Bool, true, false}
 use mathlib.Core.List.{List, [], _∷_, _++_}
 use mathlib.Core.Logic.{inl, inr, _≢_}
-use Prim.Native.Nat.{ℕ, suc, _+_, _-_, _≤_, _<_}
+use Prim.Native.Nat.{ℕ, _+_, _-_, _≤_, _<_}
 use native.Mathlib.Omega.{arith}
 use borrow.Author.Tests.{eqb-false}
 use lib.Dec.{eqb}
 use lib.ListN.{length, getD, take, drop, set, length-append}
 use Rattle.automata.proofs.Lists.{Mem}
 use Rattle.automata.proofs.Tests.{either}
-use Rattle.tables.specs.Lists.{tabulate, some, position, place, sift, over}
-use Rattle.tables.proofs.Lists.{at-mem, has-some, position-in, position-passes, position-is, some-has, tabulate-length, subset-length, pairwise-map, sift-more, sift-all, sift-apart, Apart}
+use Rattle.tables.specs.Lists.{tabulate, some, place, sift, over}
+use Rattle.tables.proofs.Lists.{at-mem, has-some, position-le, position-in, position-passes, position-is, some-has, tabulate-length, subset-length, pairwise-map, sift-more, sift-all, sift-apart, Apart}
 use Rattle.tables.proofs.Over.{over-set, over-over, part-length, part-at, part-over}
 use Rattle.scratch.specs.Scratch.{foldsAt, foldIn}
 use Rattle.renumbering.specs.Line.{Line}
@@ -25,15 +25,6 @@ module _ (s : List ℕ) (at count : ℕ) (fits : at + count ≤ length s) where
       position-is (eqb x) (take count (drop at s)) i 0 (omega (arith, part-length s at count fits))
       (λ j l. ap (eqb x) (part-at s at count j (omega arith)) ∙ before j l)
       (λ l. let g : i < count = omega (arith, part-length s at count fits) in ap (eqb x) (part-at s at count i g) ∙ here g)
-
-position-le : (g : ℕ → Bool) (l : List ℕ) → position g l ≤ length l
-unfolding position
-position-le g [] = omega arith
-position-le g (x ∷ l) = pick (g x) (position-le g l)
-  where
-    pick : (b : Bool) → position g l ≤ length l → elim b [ true ↦ 0 | false ↦ suc (position g l) ] ≤ suc (length l)
-    pick true h = omega arith
-    pick false h = omega arith
 
 pub place-most : (s : List ℕ) (at count x : ℕ) {r : ℕ} → at + count ≤ length s → r ≡ place x (take count (drop at s)) → r ≤ count
 place-most s at count x fits e = omega (arith, position-le (eqb x) (take count (drop at s)), part-length s at count fits)

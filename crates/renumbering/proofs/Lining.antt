@@ -4,16 +4,15 @@ use mathlib.Core.List.{List, [], _∷_}
 use mathlib.Core.Logic.{inl, inr}
 use Prim.Native.Nat.{ℕ, zero, suc, _+_, _*_, _≤_, _<_}
 use native.Mathlib.Omega.{arith}
-use native.Mathlib.Decide.{decLt}
 use native.Mathlib.Numerals.{add-one}
 use lib.Dec.{eqb}
-use lib.ListN.{length, getD, set, List·getD-eq-default}
+use lib.ListN.{length, getD, set}
 use lib.Seq.{set-getD, getD-set-same}
 use Rattle.automata.proofs.Lists.{Mem}
 use Rattle.tables.specs.Lists.{tabulate, sift, over}
 use Rattle.tables.specs.Table.{Table, Valid, machine, eventsOf, unit, targetOf}
 use Rattle.tables.specs.Reduction.{met, numbering}
-use Rattle.tables.proofs.Lists.{mem-tabulate, tabulate-mem, tabulate-length, tabulate-same}
+use Rattle.tables.proofs.Lists.{read-below, mem-tabulate, tabulate-mem, tabulate-length, tabulate-same}
 use Rattle.tables.proofs.Numbering.{numbering-starts, met-stops}
 use Rattle.tables.proofs.Over.{over-set, over-length, over-part, over-inside, over-behind, over-again}
 use Rattle.scratch.specs.Scratch.{needed, queueAt, foldsAt, foldIn, queued}
@@ -29,10 +28,7 @@ read-same (x ∷ l) (suc i) d e h = read-same l i d e (omega arith)
 
 -- Every cell of a valid table is a row, and so is what is read beyond them.
 pub cells-rows : (T : Table) → Valid T → (i : ℕ) → getD (T .cells) i 0 < T .rows
-cells-rows T v i = elim (decLt i (length (T .cells))) [
-  | yes h ↦ v .cells-in i h
-  | no h ↦ let e = List·getD-eq-default (T .cells) 0 {n = i} (omega arith) in omega (arith, v .some-row)
-]
+cells-rows T v = read-below (T .cells) (T .rows) (v .some-row) (v .cells-in)
 
 module _ (T : Table) (v : Valid T) (s : List ℕ) (room : needed (T .rows) ≤ length s) where
   abbrev f : ℕ → ℕ

@@ -12,3 +12,4 @@ pub mod Canonical
 pub mod Theorems
 pub mod Fakes
 pub mod BoldCases
+pub mod Bounds

@@ -5,7 +5,7 @@ use mathlib.Core.List.{List, [], _∷_, _++_, append-nil, append-assoc}
 use mathlib.Core.Logic.{_⊎_, inl, inr}
 use Prim.Native.Nat.{ℕ, zero, suc, _≤_, _<_, zero-le, suc-le-suc}
 use native.Mathlib.Omega.{arith}
-use native.Mathlib.Decide.{decLe}
+use native.Mathlib.Decide.{decLe, decLt}
 use lib.Dec.{eqb}
 use borrow.Author.Tests.{eqb-true, eq-eqb}
 use lib.ListN.{length, getD, List·getD-eq-default}
@@ -29,6 +29,13 @@ tabulate-all (suc n) f (suc i) d out = tabulate-all n (λ j. f (suc j)) i d (λ 
 
 pub tabulate-at {ℓ} : {A : Type ℓ} (n : ℕ) (f : ℕ → A) (i : ℕ) (d : A) → i < n → getD (tabulate n f) i d ≡ f i
 tabulate-at n f i d h = tabulate-all n f i d (λ g. absurd (omega arith))
+
+-- What holds of every entry, and of the default, holds of what is read.
+pub tabulate-read : (P : ℕ → Type 0) (n : ℕ) (f : ℕ → ℕ) (i d : ℕ) → P d → ((j : ℕ) → P (f j)) → P (getD (tabulate n f) i d)
+unfolding tabulate
+tabulate-read P zero f i d h all = h
+tabulate-read P (suc n) f zero d h all = all 0
+tabulate-read P (suc n) f (suc i) d h all = tabulate-read P n (λ j. f (suc j)) i d h (λ j. all (suc j))
 
 -- One more at the end.
 pub tabulate-more {ℓ} : {A : Type ℓ} (n : ℕ) (f : ℕ → A) → tabulate (suc n) f ≡ tabulate n f ++ (f n ∷ [])
@@ -76,6 +83,10 @@ read-mem l i d h = elim (decLe (length l) i) [
   | yes g ↦ subst (λ (x : ℕ). Mem x l) (sym (List·getD-eq-default l d g)) h
   | no g ↦ at-mem l i d (omega arith)
 ]
+
+-- What is below n wherever there is a member is below n everywhere, if n is not 0.
+pub read-below : (l : List ℕ) (n : ℕ) → 0 < n → ((i : ℕ) → i < length l → getD l i 0 < n) → (i : ℕ) → getD l i 0 < n
+read-below l n pos h i = elim (decLt i (length l)) [ yes g ↦ h i g | no g ↦ let e = List·getD-eq-default l 0 {n = i} (omega arith) in omega arith ]
 
 pub mem-tabulate : (n : ℕ) (f : ℕ → ℕ) (i : ℕ) → i < n → Mem (f i) (tabulate n f)
 unfolding tabulate
@@ -178,7 +189,26 @@ first-is f R d (x ∷ l) p y h t = pick (f x) refl h (λ g. first-is f R d l (p 
     pick false e (inl g) ih = clash (subst (λ (z : ℕ). f z ≡ true) g t) e
     pick false e (inr g) ih = let r = ih g in record { is-in = inr (r .is-in); passes = r .passes; before = r .before }
 
+-- What holds of every member, and of the default, holds of the first that passes.
+pub first-all : (P : ℕ → Type 0) (f : ℕ → Bool) (d : ℕ) (l : List ℕ) → P d → ((x : ℕ) → Mem x l → P x) → P (first f d l)
+unfolding first
+first-all P f d [] h all = h
+first-all P f d (x ∷ l) h all = pick (f x) (first-all P f d l h (λ y m. all y (inr m)))
+  where
+    pick : (b : Bool) → P (first f d l) → P (elim b [ true ↦ x | false ↦ first f d l ])
+    pick true ih = all x (inl refl)
+    pick false ih = ih
+
 -- ---- place
+
+pub position-le : (f : ℕ → Bool) (l : List ℕ) → position f l ≤ length l
+unfolding position
+position-le f [] = omega arith
+position-le f (x ∷ l) = pick (f x) (position-le f l)
+  where
+    pick : (b : Bool) → position f l ≤ length l → elim b [ true ↦ 0 | false ↦ suc (position f l) ] ≤ suc (length l)
+    pick true h = omega arith
+    pick false h = omega arith
 
 module _ (f : ℕ → Bool) where
   pub position-in : (l : List ℕ) (x : ℕ) → Mem x l → f x ≡ true → position f l < length l

@@ -4,12 +4,6 @@ use borrow.Author.Needs.{needs}
 use Rattle.desk.proofs.offset_of.Statement.{statement}
 use Rattle.desk.proofs.offset_of.Tie as tie
 
-mul-k : tie.Need-mul-k
-mul-k c = search needs
-
-add-k : tie.Need-add-k
-add-k c = search needs
-
 returns : tie.Need-returns
 returns c = rw (eq-eqb (c .before .args .low + 256 * c .before .args .high) 65535 (c .if1 .taken))
 
@@ -17,4 +11,4 @@ returns-2 : tie.Need-returns-2
 returns-2 c = rw (ne-eqb (c .before .args .low + 256 * c .before .args .high) 65535 (c .if1 .left))
 
 pub offset-of-spec : {M : Type 1} → statement M
-offset-of-spec = tie.close (tie.spec mul-k add-k returns returns-2)
+offset-of-spec = tie.close (tie.spec (λ c. search needs) (λ c. search needs) returns returns-2)

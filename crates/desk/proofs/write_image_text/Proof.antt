@@ -1,50 +1,21 @@
 use mathlib.Core.Path.{sym, ap, subst, _∙_}
-use lib.ListN.{length, replicate, length-replicate}
+use Prim.Native.Nat.{ℕ}
+use native.Mathlib.Omega.{arith}
+use lib.ListN.{replicate, length-replicate}
 use lib.Seq.{length-take-le}
 use Rattle.tables.specs.Table.{Valid}
 use Rattle.rules.specs.Rules.{offsetOf}
+use Rattle.text.proofs.Buffer.{puts-as}
 use Rattle.desk.specs.Printed.{reductionText}
 use Rattle.desk.proofs.Taken.{taken-valid, cells-fit, part-of-cells, part-of-marks, refused-text, taken-text, taken-table}
-use mathlib.Core.Path.{ap, _∙_}
-use mathlib.Core.List.{List}
-use Prim.Native.Nat.{ℕ, min}
-use native.Mathlib.Omega.{arith}
-use lib.ListN.{length, length-replicate}
-use Rattle.rules.specs.Rules.{offsetOf}
-use Rattle.listing.specs.Text.{filled}
-use Rattle.desk.proofs.Taken.{taken-valid, refused-text, taken-text, taken-table}
 use borrow.Author.Needs.{needs}
 use Rattle.desk.proofs.write_image_text.Statement.{statement}
 use Rattle.desk.proofs.write_image_text.Tie as tie
-
-winch-requires : tie.Need-winch-requires
-winch-requires c κs = search needs
-
-slice-aggregate-read-within : tie.Need-slice-aggregate-read-within
-slice-aggregate-read-within c = search needs
-
-slice-aggregate-read-within-2 : tie.Need-slice-aggregate-read-within-2
-slice-aggregate-read-within-2 c = search needs
-
-read-within-requires : tie.Need-read-within-requires
-read-within-requires c κs = search needs
-
-enum-known-number : tie.Need-enum-known-number
-enum-known-number c = search needs
-
-write-refusal-requires : tie.Need-write-refusal-requires
-write-refusal-requires c κs = search needs
-
-enum-known-rows : tie.Need-enum-known-rows
-enum-known-rows c = search needs
 
 mul-count : tie.Need-mul-count
 mul-count c =
     let a = c .before .before .before .before .before .before .before .before .before .before .before .args in
     record { fits = omega (arith, cells-fit (a .image .now) (λ i. omega (arith, c .before .before .before .before .before .before .before .before .before .before .shared-slice-known .given i)) (c .before .before .before .before .before .before .before .before .winch .result) (c .before .before .before .before .before .before .before .before .winch .ensures) (replicate {A = ℕ} 4096 0) (replicate {A = ℕ} 16 0) (length-replicate {A = ℕ} 4096 0) (length-replicate {A = ℕ} 16 0) (c .before .before .before .before .before .read-within .ensures .0) (c .before .rows .given .0 .0) (c .before .rows .given .0 .1 .0) (c .before .rows .given .0 .1 .1 .0) (c .before .rows .given .1)) }
-
-mark-bytes-requires : tie.Need-mark-bytes-requires
-mark-bytes-requires c κs = search needs
 
 array-share-prefix-cells : tie.Need-array-share-prefix-cells
 array-share-prefix-cells c =
@@ -72,45 +43,39 @@ write-reduction-requires c κs =
     let v = taken-valid (a .image .now) (λ i. omega (arith, c .before .before .before .before .before .before .before .before .before .before .before .before .before .before .shared-slice-known .given i)) (c .before .before .before .before .before .before .before .before .before .before .before .before .winch .result) (c .before .before .before .before .before .before .before .before .before .before .before .before .winch .ensures) (replicate {A = ℕ} 4096 0) (replicate {A = ℕ} 16 0) (length-replicate {A = ℕ} 4096 0) (length-replicate {A = ℕ} 16 0) (c .before .before .before .before .before .before .before .before .before .read-within .ensures .0) (c .before .before .before .before .before .rows .given .0 .0) (c .before .before .before .before .before .rows .given .0 .1 .0) (c .before .before .before .before .before .rows .given .0 .1 .1 .0) (c .before .before .before .before .before .rows .given .1) in
     (subst Valid (sym (taken-table (a .image .now) (λ i. omega (arith, c .before .before .before .before .before .before .before .before .before .before .before .before .before .before .shared-slice-known .given i)) (c .before .before .before .before .before .before .before .before .before .before .before .before .winch .result) (c .before .before .before .before .before .before .before .before .before .before .before .before .winch .ensures) (replicate {A = ℕ} 4096 0) (replicate {A = ℕ} 16 0) (length-replicate {A = ℕ} 4096 0) (length-replicate {A = ℕ} 16 0) (c .before .before .before .before .before .before .before .before .before .read-within .ensures .0) (c .before .before .before .before .before .rows .given .0 .0) (c .before .before .before .before .before .rows .given .0 .1 .0) (c .before .before .before .before .before .rows .given .0 .1 .1 .0) (c .before .before .before .before .before .rows .given .1) (c .before .before .before .before .before .before .before .before .before .read-within .last .1 .1 .1 .0) (c .before .before .before .before .before .before .before .before .before .read-within .last .1 .1 .1 .1 .0) (c .before .before .before .mark-bytes .result) (c .before .before .before .before .before .before .before .before .before .read-within .ensures .1) (c .before .before .before .before .before .before .before .before .before .read-within .ensures .2) (c .before .before .before .mark-bytes .ensures))) (v .0), v .1)
 
-same-length : tie.Need-same-length
-same-length c = search needs
-
 returns : tie.Need-returns
 returns c =
     let a = c .before .before .before .before .before .before .before .before .before .before .before .before .before .before .before .args in
-    let w = c .before .before .write-refusal .ensures in
+    let w = c .before .before .put-refusal .ensures in
     let e = refused-text (a .image .now) (λ i. omega (arith, c .before .before .before .before .before .before .before .before .before .before .before .before .before .before .shared-slice-known .given i)) (c .before .before .before .before .before .before .before .before .before .before .before .before .winch .result) (c .before .before .before .before .before .before .before .before .before .before .before .before .winch .ensures) (replicate {A = ℕ} 4096 0) (replicate {A = ℕ} 16 0) (length-replicate {A = ℕ} 4096 0) (length-replicate {A = ℕ} 16 0) (c .before .before .before .before .before .before .before .before .before .read-within .ensures .0) (offsetOf (a .offset)) (c .before .before .before .before .before .number .given .0 .0) (c .before .before .before .before .before .number .given .0 .1 .0) (c .before .before .before .before .before .number .given .1) in
-    (w .0 ∙ ap (filled (a .out .now)) e, w .1 ∙ ap (λ (t : List ℕ). min (length t) (length (a .out .now))) e)
-
-same-length-2 : tie.Need-same-length-2
-same-length-2 c = search needs
+    puts-as (sym e) w
 
 returns-2 : tie.Need-returns-2
 returns-2 c =
     let a = c .before .before .before .before .before .before .before .before .before .before .before .before .before .before .before .before .before .before .args in
     let w = c .before .before .write-reduction .ensures in
     let e = ap (reductionText (offsetOf (a .offset))) (taken-table (a .image .now) (λ i. omega (arith, c .before .before .before .before .before .before .before .before .before .before .before .before .before .before .before .before .before .shared-slice-known .given i)) (c .before .before .before .before .before .before .before .before .before .before .before .before .before .before .before .winch .result) (c .before .before .before .before .before .before .before .before .before .before .before .before .before .before .before .winch .ensures) (replicate {A = ℕ} 4096 0) (replicate {A = ℕ} 16 0) (length-replicate {A = ℕ} 4096 0) (length-replicate {A = ℕ} 16 0) (c .before .before .before .before .before .before .before .before .before .before .before .before .read-within .ensures .0) (c .before .before .before .before .before .before .before .before .rows .given .0 .0) (c .before .before .before .before .before .before .before .before .rows .given .0 .1 .0) (c .before .before .before .before .before .before .before .before .rows .given .0 .1 .1 .0) (c .before .before .before .before .before .before .before .before .rows .given .1) (c .before .before .before .before .before .before .before .before .before .before .before .before .read-within .last .1 .1 .1 .0) (c .before .before .before .before .before .before .before .before .before .before .before .before .read-within .last .1 .1 .1 .1 .0) (c .before .before .before .before .before .before .mark-bytes .result) (c .before .before .before .before .before .before .before .before .before .before .before .before .read-within .ensures .1) (c .before .before .before .before .before .before .before .before .before .before .before .before .read-within .ensures .2) (c .before .before .before .before .before .before .mark-bytes .ensures)) ∙ taken-text (a .image .now) (λ i. omega (arith, c .before .before .before .before .before .before .before .before .before .before .before .before .before .before .before .before .before .shared-slice-known .given i)) (c .before .before .before .before .before .before .before .before .before .before .before .before .before .before .before .winch .result) (c .before .before .before .before .before .before .before .before .before .before .before .before .before .before .before .winch .ensures) (replicate {A = ℕ} 4096 0) (replicate {A = ℕ} 16 0) (length-replicate {A = ℕ} 4096 0) (length-replicate {A = ℕ} 16 0) (c .before .before .before .before .before .before .before .before .before .before .before .before .read-within .ensures .0) (c .before .before .before .before .before .before .before .before .rows .given .0 .0) (c .before .before .before .before .before .before .before .before .rows .given .0 .1 .0) (c .before .before .before .before .before .before .before .before .rows .given .0 .1 .1 .0) (c .before .before .before .before .before .before .before .before .rows .given .1) (offsetOf (a .offset)) in
-    (w .0 ∙ ap (filled (a .out .now)) e, w .1 ∙ ap (λ (t : List ℕ). min (length t) (length (a .out .now))) e)
+    puts-as (sym e) w
 
 pub write-image-text-spec : {M : Type 1} → statement M
 write-image-text-spec =
     tie.close
     (tie.spec
-    winch-requires
-    slice-aggregate-read-within
-    slice-aggregate-read-within-2
-    read-within-requires
-    enum-known-number
-    write-refusal-requires
-    enum-known-rows
+    (λ c κs. search needs)
+    (λ c. search needs)
+    (λ c. search needs)
+    (λ c κs. search needs)
+    (λ c. search needs)
+    (λ c κs. search needs)
+    (λ c. search needs)
     mul-count
-    mark-bytes-requires
+    (λ c κs. search needs)
     array-share-prefix-cells
     slice-aggregate-write-reduction
     array-share-prefix-marks
     slice-aggregate-write-reduction-2
     write-reduction-requires
-    same-length
+    (λ c. search needs)
     returns
-    same-length-2
+    (λ c. search needs)
     returns-2)

@@ -1,34 +1,16 @@
 use mathlib.Core.Path.{ap}
 use mathlib.Core.Bool.{Bool, cond}
 use borrow.Author.Tests.{eq-eqb, ne-eqb}
-use Rattle.listing.specs.Text.{text}
+use Rattle.text.specs.Text.{text}
 use Rattle.listing.specs.Listing.{markWords}
-use Rattle.listing.proofs.Buffer.{puts-as}
+use Rattle.text.proofs.Buffer.{puts-as}
 use borrow.Author.Needs.{needs}
 use Rattle.listing.proofs.put_mark.Statement.{statement}
 use Rattle.listing.proofs.put_mark.Tie as tie
 
-slice-aggregate-put-text : tie.Need-slice-aggregate-put-text
-slice-aggregate-put-text c = search needs
-
-put-text-requires : tie.Need-put-text-requires
-put-text-requires c κs = search needs
-
-same-length : tie.Need-same-length
-same-length c = search needs
-
 returns : tie.Need-returns
 unfolding markWords
 returns c = puts-as (ap (λ (b : Bool). cond b (text " ready\n") (text " wait\n")) (eq-eqb _ _ (c .before .before .before .before .before .if1 .taken))) (c .before .before .put-text .ensures)
-
-slice-aggregate-put-text-2 : tie.Need-slice-aggregate-put-text-2
-slice-aggregate-put-text-2 c = search needs
-
-put-text-requires-2 : tie.Need-put-text-requires-2
-put-text-requires-2 c κs = search needs
-
-same-length-2 : tie.Need-same-length-2
-same-length-2 c = search needs
 
 returns-2 : tie.Need-returns-2
 unfolding markWords
@@ -38,11 +20,11 @@ pub put-mark-spec : {M : Type 1} → statement M
 put-mark-spec =
     tie.close
     (tie.spec
-    slice-aggregate-put-text
-    put-text-requires
-    same-length
+    (λ c. search needs)
+    (λ c κs. search needs)
+    (λ c. search needs)
     returns
-    slice-aggregate-put-text-2
-    put-text-requires-2
-    same-length-2
+    (λ c. search needs)
+    (λ c κs. search needs)
+    (λ c. search needs)
     returns-2)

@@ -4,9 +4,9 @@ use Prim.Native.Nat.{ℕ, _-_, _≤_}
 use native.Mathlib.Omega.{arith}
 use lib.ListN.{length, getD}
 use Rattle.records.specs.declared.Record.{Record}
-use Rattle.listing.specs.Text.{joined, Puts}
+use Rattle.text.specs.Text.{joined, Puts}
 use Rattle.listing.specs.Listing.{recordLine, blank}
-use Rattle.listing.proofs.Buffer.{puts-as, puts-first, puts-next}
+use Rattle.text.proofs.Buffer.{puts-as, puts-first, puts-next}
 use borrow.Author.Needs.{needs}
 use Rattle.listing.proofs.put_records.Statement.{statement}
 use Rattle.listing.proofs.put_records.Tie as tie

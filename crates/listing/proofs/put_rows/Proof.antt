@@ -2,9 +2,9 @@ use mathlib.Core.Path.{_≡_, refl, ap, _∙_}
 use Prim.Native.Nat.{ℕ, _-_, _≤_}
 use native.Mathlib.Omega.{arith}
 use lib.ListN.{length}
-use Rattle.listing.specs.Text.{joined, Puts}
+use Rattle.text.specs.Text.{joined, Puts}
 use Rattle.listing.specs.Listing.{rowLine}
-use Rattle.listing.proofs.Buffer.{puts-as, puts-first, puts-next}
+use Rattle.text.proofs.Buffer.{puts-as, puts-first, puts-next}
 use borrow.Author.Needs.{needs}
 use Rattle.listing.proofs.put_rows.Statement.{statement}
 use Rattle.listing.proofs.put_rows.Tie as tie

@@ -2,9 +2,9 @@ use mathlib.Core.Path.{_≡_, refl, sym, ap, _∙_}
 use Prim.Native.Nat.{ℕ, _-_, _≤_}
 use native.Mathlib.Omega.{arith}
 use lib.ListN.{length}
-use Rattle.listing.specs.Text.{decimal, joined, Puts}
+use Rattle.text.specs.Text.{decimal, joined, Puts}
 use Rattle.listing.specs.Listing.{targetWord}
-use Rattle.listing.proofs.Buffer.{puts-as, puts-then, puts-first, puts-next}
+use Rattle.text.proofs.Buffer.{puts-as, puts-then, puts-first, puts-next}
 use borrow.Author.Needs.{needs}
 use Rattle.listing.proofs.put_targets.Statement.{statement}
 use Rattle.listing.proofs.put_targets.Tie as tie

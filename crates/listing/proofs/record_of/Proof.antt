@@ -14,15 +14,6 @@ inside [] i d e h = absurd (omega arith)
 inside (x ∷ l) zero d e h = refl
 inside (x ∷ l) (suc i) d e h = inside l i d e (omega arith)
 
-wide-requires : tie.Need-wide-requires
-wide-requires c κs = search needs
-
-mul-result : tie.Need-mul-result
-mul-result c = search needs
-
-array-copy-out-result : tie.Need-array-copy-out-result
-array-copy-out-result c = search needs
-
 returns : tie.Need-returns
 returns c =
     let l = c .before .before .before .args .t1 in
@@ -34,4 +25,4 @@ returns-2 c = sym (List·getD-eq-default (c .before .before .args .t1) blank (om
 
 pub record-of-spec : {M : Type 1} → statement M
 record-of-spec =
-    tie.close (tie.spec wide-requires mul-result array-copy-out-result returns returns-2)
+    tie.close (tie.spec (λ c κs. search needs) (λ c. search needs) (λ c. search needs) returns returns-2)

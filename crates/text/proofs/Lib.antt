@@ -1,0 +1,4 @@
+pub mod Buffer
+pub mod Decimal
+pub mod Short
+pub mod Example
