@@ -105,8 +105,9 @@ fn write_image_text(offset: Offset, image: &[u8], out: &mut [u8]) -> usize
 
 // Writes what `reduce` prints for its input, as far as there is room, and answers how many bytes that are: all of them if fewer than there is room for.
 pub fn write_text(input: &[u8], out: &mut [u8]) -> usize
-    ensures { λ r. ⌜ (now (out .exit) ≡ filled (now (out .entry)) (printed (now (input .entry))))
-        × (r ≡ min (length (printed (now (input .entry)))) (length (now (out .entry)))) ⌝ }
+    ensures { λ r. ⌜ (let t = printed (now (input .entry)) in let room = now (out .entry) in
+        (now (out .exit) ≡ filled room t)
+        × (r ≡ min (length t) (length room))) ⌝ }
 {
     if input.len() < 2 {
         return text::put_refusal(out, 0, 8, 0);
@@ -118,8 +119,9 @@ pub fn write_text(input: &[u8], out: &mut [u8]) -> usize
 // The same for programs in C or Rust.
 #[no_mangle]
 pub extern "C" fn gelfost_reduce_text(input: &[u8], out: &mut [u8]) -> usize
-    ensures { λ r. ⌜ (now (out .exit) ≡ filled (now (out .entry)) (printed (now (input .entry))))
-        × (r ≡ min (length (printed (now (input .entry)))) (length (now (out .entry)))) ⌝ }
+    ensures { λ r. ⌜ (let t = printed (now (input .entry)) in let room = now (out .entry) in
+        (now (out .exit) ≡ filled room t)
+        × (r ≡ min (length t) (length room))) ⌝ }
 {
     write_text(input, out)
 }

@@ -5,9 +5,6 @@ use borrow.Author.Needs.{needs}
 use Rattle.listing.proofs.put_depth.Statement.{statement}
 use Rattle.listing.proofs.put_depth.Tie as tie
 
-enum-told : tie.Need-enum-told
-enum-told c = search needs
-
 returns : tie.Need-returns
 unfolding depthWords
 returns c =
@@ -27,7 +24,7 @@ put-depth-spec =
     (λ c κs. search needs)
     (λ c κs. search needs)
     (λ c κs. search needs)
-    enum-told
+    (λ c. search needs)
     (λ c. search needs)
     (λ c κs. search needs)
     (λ c. search needs)

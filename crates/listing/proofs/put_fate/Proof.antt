@@ -6,9 +6,6 @@ use borrow.Author.Needs.{needs}
 use Rattle.listing.proofs.put_fate.Statement.{statement}
 use Rattle.listing.proofs.put_fate.Tie as tie
 
-enum-told : tie.Need-enum-told
-enum-told c = search needs
-
 returns : tie.Need-returns
 unfolding fateWords
 returns c = puts-as (ap (λ (f : Fate). fateWords f (c .before .before .before .before .before .before .before .before .before .args .depth)) (c .before .before .before .before .before .before .fate .given .1)) (c .before .before .put-reached .ensures)
@@ -31,7 +28,7 @@ put-fate-spec =
     (λ c. search needs)
     (λ c. search needs)
     (λ c κs. search needs)
-    enum-told
+    (λ c. search needs)
     (λ c. search needs)
     (λ c κs. search needs)
     (λ c. search needs)

@@ -26,18 +26,6 @@ loop-holds c =
     let a = c .before .args in
     (omega arith, puts-first (line (a .records)) (a .out .now) (a .at), refl)
 
-record-of-requires : tie.Need-record-of-requires Inv-loop μ-loop
-record-of-requires c κs = search needs
-
-put-record-requires : tie.Need-put-record-requires Inv-loop μ-loop
-put-record-requires c κs = search needs
-
-add-row : tie.Need-add-row Inv-loop μ-loop
-add-row c = omega arith
-
-loop-less : tie.Need-loop-less Inv-loop μ-loop
-loop-less c = omega arith
-
 loop-again : tie.Need-loop-again Inv-loop μ-loop
 loop-again c =
     let records = c .before .before .before .before .before .before .before .before .args .records in
@@ -63,10 +51,10 @@ put-records-spec =
     Inv-loop
     μ-loop
     loop-holds
-    record-of-requires
-    put-record-requires
-    add-row
-    loop-less
+    (λ c κs. search needs)
+    (λ c κs. search needs)
+    (λ c. omega arith)
+    (λ c. omega arith)
     loop-again
     same-length
     returns)

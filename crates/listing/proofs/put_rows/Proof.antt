@@ -20,15 +20,6 @@ loop-holds c =
     let a = c .before .before .before .args in
     (omega arith, puts-first (rowLine (a .events) (a .cells .now) (a .marks .now)) (a .out .now) (a .at), refl)
 
-put-row-requires : tie.Need-put-row-requires Inv-loop μ-loop
-put-row-requires c κs = search needs
-
-add-row : tie.Need-add-row Inv-loop μ-loop
-add-row c = omega arith
-
-loop-less : tie.Need-loop-less Inv-loop μ-loop
-loop-less c = omega arith
-
 loop-again : tie.Need-loop-again Inv-loop μ-loop
 loop-again c =
     let a = c .before .before .before .before .before .before .before .before .before .args in
@@ -53,9 +44,9 @@ put-rows-spec =
     Inv-loop
     μ-loop
     loop-holds
-    put-row-requires
-    add-row
-    loop-less
+    (λ c κs. search needs)
+    (λ c. omega arith)
+    (λ c. omega arith)
     loop-again
     same-length
     returns)

@@ -20,21 +20,6 @@ loop-holds c =
     let a = c .before .before .args in
     (omega arith, puts-first (targetWord (a .events) (a .cells .now) (a .row)) (a .out .now) (a .at), refl)
 
-put-byte-requires : tie.Need-put-byte-requires Inv-loop μ-loop
-put-byte-requires c κs = search needs
-
-target-requires : tie.Need-target-requires Inv-loop μ-loop
-target-requires c κs = search needs
-
-put-cell-requires : tie.Need-put-cell-requires Inv-loop μ-loop
-put-cell-requires c κs = search needs
-
-add-event : tie.Need-add-event Inv-loop μ-loop
-add-event c = omega arith
-
-loop-less : tie.Need-loop-less Inv-loop μ-loop
-loop-less c = omega arith
-
 loop-again : tie.Need-loop-again Inv-loop μ-loop
 unfolding targetWord
 loop-again c =
@@ -62,11 +47,11 @@ put-targets-spec =
     Inv-loop
     μ-loop
     loop-holds
-    put-byte-requires
-    target-requires
-    put-cell-requires
-    add-event
-    loop-less
+    (λ c κs. search needs)
+    (λ c κs. search needs)
+    (λ c κs. search needs)
+    (λ c. omega arith)
+    (λ c. omega arith)
     loop-again
     same-length
     returns)
