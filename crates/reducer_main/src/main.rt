@@ -221,19 +221,29 @@ fn tables(out: &mut [u8]) -> usize {
 // In the edges every row leads to row 0, and none is ready.
 fn most_rows(out: &mut [u8], at: usize) -> usize {
     let mut scratch = [9999u16; 527872];
-    let cells = [0u16; 1024];
-    let marks = [0u8; 128];
-    let next = show_edge(out, at, b"1024 rows", 1024, 1, &cells, &marks, &mut scratch);
-    let more_cells = [0u16; 1025];
-    let more_marks = [0u8; 129];
     show_edge(
         out,
-        next,
+        at,
+        b"1024 rows",
+        1024,
+        1,
+        &[0u16; 1024],
+        &[0u8; 128],
+        &mut scratch,
+    )
+}
+
+// Rule 1 is judged before the scratch is.
+fn too_many_rows(out: &mut [u8], at: usize) -> usize {
+    let mut scratch = [9999u16; 4];
+    show_edge(
+        out,
+        at,
         b"1025 rows",
         1025,
         1,
-        &more_cells,
-        &more_marks,
+        &[0u16; 1025],
+        &[0u8; 129],
         &mut scratch,
     )
 }
@@ -291,6 +301,7 @@ fn main() {
     let mut out = io::large_buffer();
     let mut n = tables(&mut out);
     n = most_rows(&mut out, n);
+    n = too_many_rows(&mut out, n);
     n = most_events(&mut out, n);
     n = least_scratch(&mut out, n);
     printing::print(&out, n);
