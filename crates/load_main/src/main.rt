@@ -1,4 +1,4 @@
-// The largest tables: 1,024 rows of 32 events as a chain, a cycle and a random table. What is printed is the new row count of each.
+// The largest tables: 1,024 rows of 32 events as a chain and a random table. What is printed is the new row count of each.
 use printing::put_line;
 use reduction::Answer;
 use rules::Offset;
@@ -11,19 +11,19 @@ fn next(state: u32) -> u32 {
     b ^ (b << 5)
 }
 
-// The row after `row`; after the last row it is `last`.
-fn row_after(row: usize, last: u16) -> u16 {
+// The row after `row`; after the last row it is that row itself.
+fn row_after(row: usize) -> u16 {
     if row < 1023 {
         return (row + 1) as u16;
     }
-    last
+    1023
 }
 
 // Every event of 32 leads to the row after.
-fn fill_chain(cells: &mut [u16], last: u16) {
+fn fill_chain(cells: &mut [u16]) {
     let mut c = 0;
     while c < cells.len() {
-        cells[c] = row_after(c / 32, last);
+        cells[c] = row_after(c / 32);
         c += 1;
     }
 }
@@ -87,10 +87,8 @@ fn main() {
     let mut cells = [0u16; 32768];
     let mut marks = [0u8; 128];
     marks[127] = 128;
-    fill_chain(&mut cells, 1023);
+    fill_chain(&mut cells);
     reduce(b"chain", Offset::Number(1023), &cells, &marks);
-    fill_chain(&mut cells, 0);
-    reduce(b"cycle", Offset::None, &cells, &marks);
     fill_random(&mut cells, 1);
     fill_marks(&mut marks, 2);
     reduce(b"random", Offset::None, &cells, &marks);

@@ -28,7 +28,7 @@ pub fn mark(marks: &[u8], row: usize) -> u8
 }
 
 // Marks a row ready.
-pub fn set_mark(marks: &mut [u8], row: usize)
+fn set_mark(marks: &mut [u8], row: usize)
     ensures { λ r. ⌜ now (marks .exit) ≡ marked (now (marks .entry)) row 1 ⌝ }
 {
     let at = row / 8;
@@ -38,7 +38,7 @@ pub fn set_mark(marks: &mut [u8], row: usize)
 }
 
 // Marks a row wait.
-pub fn clear_mark(marks: &mut [u8], row: usize)
+fn clear_mark(marks: &mut [u8], row: usize)
     ensures { λ r. ⌜ now (marks .exit) ≡ marked (now (marks .entry)) row 0 ⌝ }
 {
     let at = row / 8;

@@ -24,7 +24,7 @@ pub struct Record {
 }
 
 // The depth of a row with this lead.
-pub fn depth_of(lead: u16) -> Depth
+fn depth_of(lead: u16) -> Depth
     ensures { λ r. ⌜ r ≡ depthBy lead ⌝ }
 {
     if lead == 65535 {
@@ -37,7 +37,7 @@ pub fn depth_of(lead: u16) -> Depth
 }
 
 // The fate of a row with this lead that folds into `fold`, a row with this new number.
-pub fn fate_of(row: u16, lead: u16, fold: u16, number: u16) -> Fate
+fn fate_of(row: u16, lead: u16, fold: u16, number: u16) -> Fate
     ensures { λ r. ⌜ r ≡ fateBy row lead fold number ⌝ }
 {
     if lead == 0 {
@@ -50,7 +50,7 @@ pub fn fate_of(row: u16, lead: u16, fold: u16, number: u16) -> Fate
 }
 
 // The record of a row.
-pub fn record_at(scratch: &[u16], rows: u16, row: u16) -> Record
+fn record_at(scratch: &[u16], rows: u16, row: u16) -> Record
     ensures { λ r. ⌜ r ≡ recordAt (now (scratch .entry)) rows row ⌝ }
 {
     let at = rules::wide(row);

@@ -79,7 +79,7 @@ pub fn check_shape(
 }
 
 // The place of the first cell that is no row; the number of cells if all are.
-pub fn first_outside(cells: &[u16], rows: usize) -> usize
+fn first_outside(cells: &[u16], rows: usize) -> usize
     ensures { λ r. ⌜ r ≡ firstOutside rows (now (cells .entry)) ⌝ }
 {
     let mut i = 0;
@@ -93,7 +93,7 @@ pub fn first_outside(cells: &[u16], rows: usize) -> usize
 }
 
 // Rules 5 and 6: the targets, and the spare bits of the last mark byte.
-pub fn check_contents(rows: usize, cells: &[u16], marks: &[u8]) -> Verdict
+fn check_contents(rows: usize, cells: &[u16], marks: &[u8]) -> Verdict
     ensures { λ r. ⌜ r ≡ judged (contentChecks rows (now (cells .entry)) (now (marks .entry))) ⌝ }
 {
     let place = first_outside(cells, rows);
