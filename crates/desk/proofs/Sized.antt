@@ -17,7 +17,8 @@ use Rattle.scratch.proofs.Triangle.{needed-value, triangle-le, triangle-square}
 use Rattle.records.specs.declared.Record.{Record}
 use Rattle.reduction.specs.declared.Answer.{Answer}
 use Rattle.reduction.specs.declared.Answer.the-variants as answer
-use Rattle.reduction.specs.Reduce.{verdict, answerBy, leftBy, Promise}
+use Rattle.rules.specs.Rules.{leftBy}
+use Rattle.reduction.specs.Reduce.{verdict, answerBy, Promise}
 use Rattle.reduction.proofs.Fakes.{accepts}
 use Rattle.text.specs.Text.{joined, decimal, text}
 use Rattle.reducer.specs.Recorded.{recordOf, recordsBy}

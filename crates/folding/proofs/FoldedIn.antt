@@ -18,12 +18,9 @@ use Rattle.scratch.specs.Scratch.{triangle, leadsAt, queueAt, foldsAt, numbersA
 use Rattle.scratch.proofs.Pairs.{pair-lift}
 use Rattle.scratch.proofs.Works.{workable-fine}
 use Rattle.scratch.proofs.Soundness.{workable-shape}
-use Rattle.distances.specs.Distances.{measured}
-use Rattle.distances.proofs.Measured.{measured-not, measured-pair, measured-length, measured-rest}
-use Rattle.depths.specs.Depths.{plumbed}
-use Rattle.depths.proofs.Plumbed.{plumbed-lead, plumbed-length, plumbed-pairs, plumbed-rest}
+use Rattle.lengths.specs.Lengths.{lengthsIn, Holds}
+use Rattle.lengths.proofs.Found.{lengths-size, lengths-not, lengths-beyond, lengths-hold}
 use Rattle.folding.specs.Folding.{foldCells, foldedIn}
-use Rattle.folding.specs.Holds.{Holds}
 use Rattle.folding.specs.Found.{Room, Folded}
 use Rattle.folding.proofs.Rows.{sift-few}
 use Rattle.folding.proofs.Order.{order-few}
@@ -39,12 +36,8 @@ module _ (mask : ℕ) (k : Offset) (T : Table) (s : List ℕ) where
   abbrev M : Machine
   M = machine T
 
-  -- the scratch with distances and leads
-  abbrev pub lengths : List ℕ
-  lengths = plumbed mask T (measured mask T s)
-
-  pub lengths-size : length lengths ≡ length s
-  lengths-size = plumbed-length mask T (measured mask T s) ∙ measured-length mask T s
+  abbrev lengths : List ℕ
+  lengths = lengthsIn mask T s
 
   pub folded-not : workable T (length s) ≡ false → foldedIn mask k T s ≡ s
   unfolding foldedIn
@@ -54,25 +47,11 @@ module _ (mask : ℕ) (k : Offset) (T : Table) (s : List ℕ) where
     pub small : n ≤ 1024
     small = workable-shape T (length s) w .rows-fit
 
-    room : needed n ≤ length s
-    room = workable-fine T (length s) w .1
+    holds : Holds E M lengths
+    holds = lengths-hold mask T s w
 
     pub lengths-room : Room n lengths
-    lengths-room = record { rows-fit = small; enough = omega (arith, room, lengths-size) }
-
-    still : workable T (length (measured mask T s)) ≡ true
-    still = ap (workable T) (measured-length mask T s) ∙ w
-
-    pub lengths-hold : Holds E M lengths
-    lengths-hold = record {
-      room = lengths-room .enough;
-      pairs-hold = λ q p hq hp.
-          pair-lift (λ x y. x ≡ y) n lengths (measured mask T s) refl (λ i h.
-          sym (getD-take (triangle n) lengths i 0 h) ∙ ap (λ (l : List ℕ). getD l i 0) (plumbed-pairs mask T (measured mask T s)) ∙ getD-take (triangle n) (measured mask T s) i 0 h)
-          q p hq hp
-          ∙ measured-pair mask T s w q p hq hp;
-      leads-hold = plumbed-lead mask T (measured mask T s) still;
-    }
+    lengths-room = record { rows-fit = small; enough = holds .room }
 
     -- ---- the queue is cleared
 
@@ -87,7 +66,7 @@ module _ (mask : ℕ) (k : Offset) (T : Table) (s : List ℕ) where
     folds-length = tabulate-length n (fold E M k)
 
     order-short : length (order E M) ≤ n
-    order-short = subst (λ (l : List ℕ). length l ≤ n) (order-meaning small lengths-hold) (order-few n lengths small)
+    order-short = subst (λ (l : List ℕ). length l ≤ n) (order-meaning small holds) (order-few n lengths small)
 
     kept-short : length (kept E M k) ≤ n
     unfolding kept
@@ -131,7 +110,7 @@ module _ (mask : ℕ) (k : Offset) (T : Table) (s : List ℕ) where
     inside = omega (arith, folds-length, cleared-size, lengths-room .enough)
 
     pub folded-size : length (foldedIn mask k T s) ≡ length s
-    folded-size = ap length folded-is ∙ over-length (over lengths (queueAt n) zeros) (foldsAt n) (foldCells (weightBy mask) k T) inside ∙ cleared-size ∙ lengths-size
+    folded-size = ap length folded-is ∙ over-length (over lengths (queueAt n) zeros) (foldsAt n) (foldCells (weightBy mask) k T) inside ∙ cleared-size ∙ lengths-size mask T s
 
     pub folded-fold : (q : ℕ) → q < n → getD (foldedIn mask k T s) (foldsAt n + q) 0 ≡ fold E M k q
     unfolding foldCells
@@ -145,7 +124,7 @@ module _ (mask : ℕ) (k : Offset) (T : Table) (s : List ℕ) where
         ap (λ (l : List ℕ). getD l (leadsAt n + q) 0) folded-is
         ∙ over-before (over lengths (queueAt n) zeros) (foldsAt n) (foldCells (weightBy mask) k T) inside (leadsAt n + q) 0 (omega arith)
         ∙ over-before lengths (queueAt n) zeros (omega (arith, zeros-length, lengths-room .enough)) (leadsAt n + q) 0 (omega arith)
-        ∙ lengths-hold .leads-hold q h
+        ∙ holds .leads-hold q h
 
     -- Beyond the regions nothing changes.
     pub folded-beyond : (i : ℕ) → numbersAt n ≤ i → getD (foldedIn mask k T s) i 0 ≡ getD s i 0
@@ -153,37 +132,24 @@ module _ (mask : ℕ) (k : Offset) (T : Table) (s : List ℕ) where
         ap (λ (l : List ℕ). getD l i 0) folded-is
         ∙ over-behind (over lengths (queueAt n) zeros) (foldsAt n) (foldCells (weightBy mask) k T) inside i 0 (omega (arith, folds-length))
         ∙ over-behind lengths (queueAt n) zeros (omega (arith, zeros-length, lengths-room .enough)) i 0 (omega (arith, zeros-length))
-        ∙ beyond (triangle n + n) lengths (measured mask T s) (plumbed-rest mask T (measured mask T s)) i (omega arith)
-        ∙ beyond (triangle n) (measured mask T s) s (measured-rest mask T s) i (omega arith)
-      where
-        beyond : (j : ℕ) (a b : List ℕ) → drop j a ≡ drop j b → (i : ℕ) → j ≤ i → getD a i 0 ≡ getD b i 0
-        beyond j a b e i h =
-            let g : j + (i - j) ≡ i = omega arith in
-            subst (λ (x : ℕ). getD a x 0 ≡ getD b x 0) g (sym (getD-drop j a (i - j) 0) ∙ ap (λ (l : List ℕ). getD l (i - j) 0) e ∙ getD-drop j b (i - j) 0)
+        ∙ lengths-beyond mask T s i (omega arith)
 
 -- ---- what the code's tests tell
-
-module _ (mask : ℕ) (k : Offset) (T : Table) (s : List ℕ) (r : Bool) (test : r ≡ workable T (length s)) where
-  pub refuses : not r ≡ true → (t : List ℕ) → t ≡ measured mask T s → (false ≡ workable T (length s)) × (t ≡ foldedIn mask k T s)
-  refuses e t h =
+module _ (mask : ℕ) (k : Offset) (T : Table) (s l : List ℕ) (r : Bool) (test : r ≡ workable T (length s)) (found : l ≡ lengthsIn mask T s) where
+  pub refuses : not r ≡ true → (false ≡ workable T (length s)) × (l ≡ foldedIn mask k T s)
+  refuses e =
       let w = sym test ∙ not-true r e in
-      (sym w, h ∙ measured-not mask T s w ∙ sym (folded-not mask k T s w))
+      (sym w, found ∙ lengths-not mask T s w ∙ sym (folded-not mask k T s w))
 
-  pub works : not r ≡ false → workable T (length s) ≡ true
-  works e = sym test ∙ not-false r e
+  module _ (e : not r ≡ false) where
+    pub works : workable T (length s) ≡ true
+    works = sym test ∙ not-false r e
 
--- The scratch as the code has it after the two searches.
-module _ (mask : ℕ) (k : Offset) (T : Table) (s : List ℕ) where
-  pub lengths-are : (d l : List ℕ) → d ≡ measured mask T s → l ≡ plumbed mask T d → l ≡ lengths mask k T s
-  lengths-are d l hd hl = hl ∙ ap (plumbed mask T) hd
+    pub room-after : Room (T .rows) l
+    room-after = subst (Room (T .rows)) (sym found) (lengths-room mask k T s works)
 
-  module _ (w : workable T (length s) ≡ true) where
-    pub room-after : (d l : List ℕ) → d ≡ measured mask T s → l ≡ plumbed mask T d → Room (T .rows) l
-    room-after d l hd hl = subst (Room (T .rows)) (sym (lengths-are d l hd hl)) (lengths-room mask k T s w)
-
-    pub folds-after : (l : List ℕ) → l ≡ lengths mask k T s → (t u : List ℕ) (m : ℕ)
-        → ((E : Events) (M : Machine) → M .rows ≡ T .rows → Holds E M l → Folded E M k l t m)
+    pub folds-after : (t u : List ℕ) (m : ℕ) → ((E : Events) (M : Machine) → M .rows ≡ T .rows → Holds E M l → Folded E M k l t m)
         → {from to : ℕ} → from ≡ queueAt (T .rows) → to ≡ foldsAt (T .rows) → u ≡ cleared t from to → u ≡ foldedIn mask k T s
-    folds-after l e t u m fold {from} {to} hf ht hu =
-        let f = fold (eventsOf (weightBy mask) T) (machine T) refl (subst (Holds (eventsOf (weightBy mask) T) (machine T)) (sym e) (lengths-hold mask k T s w)) in
-        folds-cleared mask k T s w t u m from to (subst (λ (x : List ℕ). Folded (eventsOf (weightBy mask) T) (machine T) k x t m) e f) hf ht hu
+    folds-after t u m fold {from} {to} hf ht hu =
+        let f = fold (eventsOf (weightBy mask) T) (machine T) refl (subst (Holds (eventsOf (weightBy mask) T) (machine T)) (sym found) (lengths-hold mask T s works)) in
+        folds-cleared mask k T s works t u m from to (subst (λ (x : List ℕ). Folded (eventsOf (weightBy mask) T) (machine T) k x t m) found f) hf ht hu

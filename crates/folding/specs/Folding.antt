@@ -7,8 +7,7 @@ use Rattle.tables.specs.Lists.{tabulate, over}
 use Rattle.tables.specs.Table.{Table, Offset, machine, eventsOf}
 use Rattle.tables.specs.Reduction.{fold}
 use Rattle.scratch.specs.Scratch.{queueAt, foldsAt, weightBy, workable}
-use Rattle.distances.specs.Distances.{measured}
-use Rattle.depths.specs.Depths.{plumbed}
+use Rattle.lengths.specs.Lengths.{lengthsIn}
 
 -- The row into which each row folds, in cells.
 unfoldable pub foldCells : (ℕ → ℕ) → Offset → Table → List ℕ
@@ -18,5 +17,5 @@ foldCells weight k T = tabulate (T .rows) (fold (eventsOf weight T) (machine T) 
 unfoldable pub foldedIn : ℕ → Offset → Table → List ℕ → List ℕ
 foldedIn mask k T s =
     cond (workable T (length s))
-    (over (over (plumbed mask T (measured mask T s)) (queueAt (T .rows)) (replicate (T .rows) 0)) (foldsAt (T .rows)) (foldCells (weightBy mask) k T))
+    (over (over (lengthsIn mask T s) (queueAt (T .rows)) (replicate (T .rows) 0)) (foldsAt (T .rows)) (foldCells (weightBy mask) k T))
     s

@@ -6,21 +6,12 @@ use mathlib.Core.List.{List, [], _∷_, _++_}
 use Prim.Native.Nat.{ℕ, zero, suc, _+_, _≤_, _<_}
 use lib.Dec.{eqb}
 use lib.ListN.{length, getD}
-use Rattle.automata.specs.Runs.{Events, Machine, Len, len, endless}
-use Rattle.tables.specs.Lengths.{oneLess}
+use Rattle.automata.specs.Runs.{Events, Machine}
 use Rattle.tables.specs.Lists.{tabulate, filter, some, first, sift, over}
 use Rattle.tables.specs.Table.{Offset}
 use Rattle.tables.specs.Reduction.{similarBy, order, kept, fold}
 use Rattle.scratch.specs.Scratch.{leadAt, queued, pairAt, queueAt, foldsAt, needed}
-use Rattle.folding.specs.Holds.{Holds}
-
--- A cell as a length.
-abbrev pub lenOf : ℕ → Len
-lenOf c = cond (eqb c 65535) endless (len c)
-
--- The depth of row q.
-abbrev pub depthAt : ℕ → List ℕ → ℕ → Len
-depthAt n s q = oneLess (lenOf (leadAt s n q))
+use Rattle.lengths.specs.Lengths.{Holds, lenOf, depthAt}
 
 -- Whether rows q and p are similar.
 unfoldable pub similarAt : Offset → ℕ → List ℕ → ℕ → ℕ → Bool

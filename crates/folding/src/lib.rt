@@ -22,10 +22,9 @@ pub fn fold_rows(
         (r ≡ workable T (length s))
         × (now (scratch .exit) ≡ foldedIn mask (offsetOf offset) T s)) ⌝ }
 {
-    if !distances::distances(mask, rows, events, start, cells, marks, scratch) {
+    if !lengths::find_lengths(mask, rows, events, start, cells, marks, scratch) {
         return false;
     }
-    depths::depths(mask, rows, events, start, cells, marks, scratch);
     let n = rows as u16;
     folds::fold_all(offset, scratch, n);
     scratch::clear(scratch, scratch::queue_at(n), scratch::folds_at(n));

@@ -13,7 +13,8 @@ use Rattle.scratch.specs.Scratch.{needed, cleared}
 use Rattle.records.specs.declared.Record.{Record}
 use Rattle.records.specs.Records.{written}
 use Rattle.records.proofs.Written.{written-is}
-use Rattle.reduction.specs.Reduce.{verdict, leftBy, Promise}
+use Rattle.rules.specs.Rules.{leftBy}
+use Rattle.reduction.specs.Reduce.{verdict, Promise}
 use Rattle.reduction.specs.Working.{recorded, workBy, worked, workedBy}
 use Rattle.reduction.specs.declared.Done.{Done}
 use Rattle.reduction.proofs.Room.{Roomy, fine-roomy}

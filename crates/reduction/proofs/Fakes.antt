@@ -3,14 +3,13 @@ use mathlib.Core.Path.{_≡_, sym, ap, _∙_}
 use Prim.Native.Nat.{ℕ, _*_, _≤_}
 use native.Mathlib.Omega.{arith}
 use Rattle.tables.specs.Table.{Table, Valid, markBytes}
-use Rattle.rules.specs.Rules.{winch, tableChecks}
 use Rattle.rules.specs.declared.Verdict.{Verdict}
 use Rattle.rules.specs.declared.Verdict.the-variants.{Fine}
-use Rattle.rules.proofs.Judged.{judged-append}
-use Rattle.rules.proofs.Shape.{table-valid}
+use Rattle.rules.proofs.First.{valid-then}
 use Rattle.scratch.proofs.Triangle.{needed-value}
 use Rattle.reduction.specs.declared.Answer.the-variants as answer
-use Rattle.reduction.specs.Reduce.{scratchCells, roomChecks, verdict, answerBy}
+use Rattle.scratch.specs.Scratch.{scratchCells}
+use Rattle.reduction.specs.Reduce.{roomChecks, verdict, answerBy}
 use Rattle.reduction.proofs.Room.{all-fits}
 
 -- A valid table, and buffers that have the named lengths or more.
@@ -19,8 +18,7 @@ module _ (T : Table) (v : Valid T) (cells marks records scratch : ℕ) (c : T .r
   pub accepts : verdict T cells marks records scratch ≡ Fine
   unfolding verdict
   accepts =
-      judged-append (tableChecks winch T) (roomChecks (T .rows) (T .events) cells marks records scratch)
-      ∙ rw (table-valid T (v .bytes) .1 v) (sym (all-fits (T .rows) (T .events) cells marks records scratch c m r (omega (arith, needed-value (T .rows)))))
+      valid-then T v (roomChecks (T .rows) (T .events) cells marks records scratch) ∙ sym (all-fits (T .rows) (T .events) cells marks records scratch c m r (omega (arith, needed-value (T .rows))))
 
   module _ (rows : ℕ) where
     -- So demand 1 asks for the new row count,

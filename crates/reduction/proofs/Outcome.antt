@@ -6,6 +6,7 @@ use lib.ListN.{length, getD}
 use Rattle.tables.specs.Lists.{over}
 use Rattle.tables.specs.Table.{Table, Offset, Valid, unit}
 use Rattle.tables.specs.Reduction.{reduced}
+use Rattle.rules.specs.Rules.{leftBy}
 use Rattle.rules.specs.declared.Verdict.{Verdict}
 use Rattle.rules.specs.declared.Verdict.the-variants.{Fine, Refused}
 use Rattle.folding.specs.Folding.{foldedIn}
@@ -15,9 +16,9 @@ use Rattle.renumbering.proofs.Left.{all-room, has-room}
 use Rattle.scratch.specs.Scratch.{workable}
 use Rattle.reduction.specs.declared.Answer.the-variants as answer
 use Rattle.reduction.specs.declared.Done.{Done}
-use Rattle.reduction.specs.Reduce.{verdict, leftBy}
+use Rattle.reduction.specs.Reduce.{verdict}
 use Rattle.reduction.specs.Working.{workBy, worked, workedBy}
-use Rattle.reduction.proofs.Room.{Roomy, fine-valid, fine-roomy, roomy-works}
+use Rattle.reduction.proofs.Room.{Roomy, verdict-valid, fine-roomy, roomy-works}
 use Rattle.reduction.proofs.Worked.{left-reduced}
 
 module _ (k : Offset) (T : Table) (bytes : (i : ℕ) → getD (T .marks) i 0 < 256) (cells marks scratch : List ℕ) (records : ℕ)
@@ -31,7 +32,7 @@ module _ (k : Offset) (T : Table) (bytes : (i : ℕ) → getD (T .marks) i 0 < 2
       × (verdict T (length cells) (length marks) records (length scratch) ≡ Fine → Valid T)
 
   sound : verdict T (length cells) (length marks) records (length scratch) ≡ Fine → Valid T
-  sound e = fine-valid T (length cells) (length marks) records (length scratch) e bytes
+  sound e = verdict-valid T (length cells) (length marks) records (length scratch) e bytes
 
   -- The parts by the verdict that was found.
   parted : {u : Verdict} {w : Done} {c m s : List ℕ} → verdict T (length cells) (length marks) records (length scratch) ≡ u

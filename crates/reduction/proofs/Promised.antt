@@ -11,14 +11,15 @@ use Rattle.tables.specs.Table.{Table, Offset, offset, none, Valid, markBytes, m
 use Rattle.tables.specs.Reduction.{reduced}
 use Rattle.tables.proofs.Over.{over-none, take-over}
 use Rattle.tables.proofs.Theorems.{unit-light, never-more, valid, agrees, agrees-none, fewest, same-events, start-zero}
+use Rattle.rules.specs.Rules.{leftBy}
 use Rattle.rules.specs.declared.Verdict.{Verdict}
 use Rattle.rules.specs.declared.Verdict.the-variants.{Fine, Refused}
-use Rattle.scratch.specs.Scratch.{triangle, needed, cleared}
+use Rattle.scratch.specs.Scratch.{triangle, needed, scratchCells, cleared}
 use Rattle.scratch.proofs.Cells.{clear-front}
 use Rattle.reduction.specs.declared.Answer.{Answer}
 use Rattle.reduction.specs.declared.Answer.the-variants as answer
 use Rattle.reduction.specs.declared.Done.{Done}
-use Rattle.reduction.specs.Reduce.{scratchCells, verdict, answerBy, leftBy, from, written, Promise}
+use Rattle.reduction.specs.Reduce.{verdict, answerBy, from, written, Promise}
 use Rattle.reduction.specs.Working.{recorded, workBy, workedBy}
 use Rattle.reduction.proofs.Room.{Roomy, fine-roomy}
 use Rattle.reduction.proofs.Worked.{worked-cleared}

@@ -1,28 +1,22 @@
 -- Rule 7, check by check, and what it means that no rule is broken.
-use mathlib.Core.Path.{_≡_, refl, sym, ap, subst, _∙_}
+use mathlib.Core.Path.{_≡_, sym, ap, subst, _∙_}
 use mathlib.Core.Bool.{true}
+use mathlib.Core.List.{List}
 use Prim.Native.Nat.{ℕ, _-_, _*_, _≤_, _<_}
 use native.Mathlib.Omega.{arith}
-use borrow.Author.Tests.{lt-ltb, le-ltb, ltb-false}
+use borrow.Author.Tests.{ltb-false}
 use lib.ListN.{getD}
 use Rattle.tables.specs.Table.{Table, Valid, markBytes}
-use Rattle.rules.specs.Rules.{andThen, judged, winch, roomRule, tableChecks}
+use Rattle.rules.specs.Rules.{judged, winch, tableChecks}
 use Rattle.rules.specs.declared.Limits.{Limits}
 use Rattle.rules.specs.declared.Verdict.{Verdict}
 use Rattle.rules.specs.declared.Verdict.the-variants.{Fine, Refused}
 use Rattle.rules.proofs.Checks.{unbroken, passed}
-use Rattle.rules.proofs.Judged.{judged-append, refused-first, fine-first}
-use Rattle.rules.proofs.Shape.{table-fine, table-valid}
-use Rattle.scratch.specs.Scratch.{needed, workable}
+use Rattle.rules.proofs.First.{room-broken, room-kept, table-refused, table-then, fine-valid, more-fine}
+use Rattle.scratch.specs.Scratch.{needed, scratchCells, workable}
 use Rattle.scratch.proofs.Triangle.{needed-value}
 use Rattle.scratch.proofs.Works.{valid-workable}
-use Rattle.reduction.specs.Reduce.{scratchCells, roomChecks, verdict}
-
-pub room-broken : (needed given : ℕ) → given < needed → roomRule needed given ≡ Refused 7 0
-room-broken needed given h = rw (lt-ltb given needed h)
-
-pub room-kept : (needed given : ℕ) → needed ≤ given → roomRule needed given ≡ Fine
-room-kept needed given h = rw (le-ltb given needed h)
+use Rattle.reduction.specs.Reduce.{roomChecks, verdict}
 
 -- A product of numbers as the code has them.
 pub same-product : {x y rows events cells : ℕ} → x ≡ rows → y ≡ events → x * y ≤ cells → rows * events ≤ cells
@@ -59,24 +53,17 @@ module _ (rows events cells marks records scratch : ℕ) where
             sym (rw (room-kept (rows * events) (cells) c, room-kept (markBytes rows) (marks) m, room-kept (rows) (records) r, room-kept (scratchCells rows) (scratch) g))
 
 -- The verdict as the code makes it: of the table's checks with the limits given, and then of the room.
-module _ (T : Table) (cells marks records scratch : ℕ) (L : Limits) (v : Verdict) (l : L ≡ winch) (e : v ≡ judged (tableChecks L T)) where
-  table-verdict : v ≡ judged (tableChecks winch T)
-  table-verdict = e ∙ ap (λ (K : Limits). judged (tableChecks K T)) l
+module _ (T : Table) (cells marks records scratch : ℕ) {L : Limits} {v : Verdict} (l : L ≡ winch) (e : v ≡ judged (tableChecks L T)) where
+  abbrev room : List Verdict
+  room = roomChecks (T .rows) (T .events) cells marks records scratch
 
   pub verdict-refused : (number place : ℕ) → v ≡ Refused number place → Refused number place ≡ verdict T cells marks records scratch
   unfolding verdict
-  verdict-refused number place h = refused-first (tableChecks winch T) (roomChecks (T .rows) (T .events) cells marks records scratch) v number place table-verdict h
+  verdict-refused = table-refused T l e room
 
-  module _ (h : v ≡ Fine) where
-    pub verdict-room : {u : Verdict} → u ≡ judged (roomChecks (T .rows) (T .events) cells marks records scratch) → u ≡ verdict T cells marks records scratch
-    unfolding verdict
-    verdict-room g = g ∙ fine-first (tableChecks winch T) (roomChecks (T .rows) (T .events) cells marks records scratch) v table-verdict h
-
-    pub few-rows : T .rows ≤ 1024
-    few-rows = table-fine winch T (sym table-verdict ∙ h) .0 .rows-fit
-
-    pub few-events : T .events ≤ 32
-    few-events = table-fine winch T (sym table-verdict ∙ h) .0 .events-fit
+  pub verdict-room : v ≡ Fine → {u : Verdict} → u ≡ judged room → u ≡ verdict T cells marks records scratch
+  unfolding verdict
+  verdict-room h g = table-then T l e h room g
 
 -- No rule broken: the table is valid, and each buffer is long enough.
 pub record Roomy (T : Table) (cells marks records scratch : ℕ) : Type 0 where
@@ -86,24 +73,16 @@ pub record Roomy (T : Table) (cells marks records scratch : ℕ) : Type 0 where
   pub records-fit : T .rows ≤ records
   pub scratch-fits : needed (T .rows) ≤ scratch
 
-both-fine : (u v : Verdict) → andThen u v ≡ Fine → (u ≡ Fine) × (v ≡ Fine)
-both-fine Fine v e = (refl, e)
-both-fine (Refused number place) v e = let z : _≡_ {A = ℕ} 0 1 = cc in absurd (omega arith)
-
 module _ (T : Table) (cells marks records scratch : ℕ) (e : verdict T cells marks records scratch ≡ Fine) where
-  parts : (judged (tableChecks winch T) ≡ Fine) × (judged (roomChecks (T .rows) (T .events) cells marks records scratch) ≡ Fine)
+  pub verdict-valid : ((i : ℕ) → getD (T .marks) i 0 < 256) → Valid T
   unfolding verdict
-  parts =
-      let r = roomChecks (T .rows) (T .events) cells marks records scratch in
-      both-fine (judged (tableChecks winch T)) (judged r) (sym (judged-append (tableChecks winch T) r) ∙ e)
-
-  -- Mark bytes are bytes, as the code's types say.
-  pub fine-valid : ((i : ℕ) → getD (T .marks) i 0 < 256) → Valid T
-  fine-valid bytes = table-valid T bytes .0 (parts .0)
+  verdict-valid bytes = fine-valid T (roomChecks (T .rows) (T .events) cells marks records scratch) e bytes
 
   pub fine-roomy : Valid T → Roomy T cells marks records scratch
+  unfolding verdict
   fine-roomy v =
-      let at = passed (roomChecks (T .rows) (T .events) cells marks records scratch) (parts .1) in
+      let room = roomChecks (T .rows) (T .events) cells marks records scratch in
+      let at = passed room (more-fine T room e) in
       let enough : scratchCells (T .rows) ≤ scratch = ltb-false _ _ (unbroken _ _ _ (at 3)) in
       record {
         valid = v;

@@ -1,13 +1,10 @@
 -- A table that was worked on: what was written is the reduction, and the scratch tells each row's depth and fate.
-use mathlib.Core.Path.{_≡_, refl, sym, ap, _∙_}
+use mathlib.Core.Path.{_≡_, refl, ap, _∙_}
 use mathlib.Core.Bool.{true}
 use mathlib.Core.List.{List}
 use Prim.Native.Nat.{ℕ, _+_, _≤_, _<_}
-use native.Mathlib.Nat.{zero-add}
-use native.Mathlib.Decide.{decLt}
 use native.Mathlib.Omega.{arith}
-use lib.ListN.{length, getD, replicate, length-replicate}
-use lib.Seq.{ext-getD}
+use lib.ListN.{length, getD, replicate}
 use Rattle.automata.specs.Runs.{Events, Machine}
 use Rattle.tables.specs.Lists.{over}
 use Rattle.tables.specs.Table.{Table, Offset, Valid, machine, eventsOf, unit, targetOf}
@@ -16,16 +13,14 @@ use Rattle.tables.specs.Reduction.{fold, number, reduced}
 use Rattle.tables.proofs.Lists.{tabulate-length, tabulate-at}
 use Rattle.tables.proofs.Numbering.{number-same, renumbered-same}
 use Rattle.tables.proofs.Over.{over-length, over-inside, over-before, over-behind}
-use Rattle.scratch.specs.Scratch.{leadsAt, queueAt, foldsAt, numbersAt, needed, lenCell, workable, cleared, foldIn}
-use Rattle.scratch.proofs.Cells.{clear-front}
-use Rattle.scratch.proofs.Triangle.{needed-value}
+use Rattle.scratch.specs.Scratch.{leadsAt, queueAt, foldsAt, numbersAt, needed, lenCell, scratchCells, workable, cleared, foldIn}
+use Rattle.scratch.proofs.Cells.{clear-work}
 use Rattle.scratch.proofs.Weights.{all-count}
 use Rattle.scratch.proofs.Works.{valid-workable}
 use Rattle.folding.specs.Folding.{foldedIn}
 use Rattle.folding.proofs.FoldedIn.{folded-size, folded-fold, folded-lead, folded-beyond}
 use Rattle.renumbering.specs.Renumber.{line, numberCells, left, numbered}
 use Rattle.renumbering.proofs.Lining.{cells-rows, line-short}
-use Rattle.reduction.specs.Reduce.{scratchCells}
 use Rattle.reduction.specs.Working.{worked}
 
 module _ (k : Offset) (T : Table) (v : Valid T) (s : List ℕ) (room : needed (T .rows) ≤ length s) where
@@ -123,18 +118,4 @@ module _ (k : Offset) (T : Table) (v : Valid T) (s : List ℕ) (room : needed (T
 
   -- Cleared, the scratch is as it was but for the zeros in front.
   pub worked-cleared : cleared (worked k T s) 0 (needed n) ≡ over s 0 (replicate (scratchCells n) 0)
-  worked-cleared =
-      let z : List ℕ = replicate (needed n) 0 in
-      let zl : length z ≡ needed n = length-replicate (needed n) 0 in
-      let fits : needed n ≤ length (worked k T s) = omega (arith, worked-size) in
-      let fw : 0 + length z ≤ length (worked k T s) = omega arith in
-      let fs : 0 + length z ≤ length s = omega arith in
-      clear-front (worked k T s) (needed n) fits
-      ∙ ext-getD 0 (over (worked k T s) 0 z) (over s 0 z) (over-length (worked k T s) 0 z fw ∙ worked-size ∙ sym (over-length s 0 z fs)) (λ i h. elim (decLt i (needed n)) [
-        | yes l ↦ inside i z (worked k T s) fw (omega arith) ∙ sym (inside i z s fs (omega arith))
-        | no l ↦ over-behind (worked k T s) 0 z fw i 0 (omega arith) ∙ worked-beyond i (omega arith) ∙ sym (over-behind s 0 z fs i 0 (omega arith))
-      ])
-      ∙ ap (λ (m : ℕ). over s 0 (replicate m 0)) (sym (needed-value n))
-    where
-      inside : (i : ℕ) (z d : List ℕ) → 0 + length z ≤ length d → i < length z → getD (over d 0 z) i 0 ≡ getD z i 0
-      inside i z d f h = ap (λ (j : ℕ). getD (over d 0 z) j 0) (sym (zero-add i)) ∙ over-inside d 0 z f i 0 h
+  worked-cleared = clear-work n s (worked k T s) room worked-size worked-beyond

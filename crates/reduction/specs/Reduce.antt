@@ -1,21 +1,17 @@
 -- What the reducer promises.
 use mathlib.Core.Path.{_≡_}
 use mathlib.Core.List.{List, [], _∷_, _++_}
-use Prim.Native.Nat.{ℕ, _+_, _-_, _*_, _/_}
+use Prim.Native.Nat.{ℕ, _*_}
 use lib.ListN.{take, replicate}
 use Rattle.automata.specs.Runs.{AgreeFrom}
-use Rattle.tables.specs.Lists.{over}
 use Rattle.tables.specs.Table.{Table, Offset, offset, none, Valid, markBytes, machine, eventsOf, unit, Fewest}
 use Rattle.tables.specs.Reduction.{reduced}
-use Rattle.rules.specs.Rules.{judged, winch, roomRule, tableChecks, tableOf}
+use Rattle.rules.specs.Rules.{judged, winch, roomRule, tableChecks, tableOf, leftBy}
 use Rattle.rules.specs.declared.Verdict.{Verdict}
 use Rattle.rules.specs.declared.Verdict.the-variants.{Fine, Refused}
+use Rattle.scratch.specs.Scratch.{scratchCells}
 use Rattle.reduction.specs.declared.Answer.{Answer}
 use Rattle.reduction.specs.declared.Answer.the-variants as answer
-
--- "Scratch of rows × (rows − 1) / 2 + 4 × rows 16-bit cells."
-abbrev pub scratchCells : ℕ → ℕ
-scratchCells rows = rows * (rows - 1) / 2 + 4 * rows
 
 -- Rule 7, for a table of so many rows and events, where the lent buffers have so many cells, mark bytes, records and scratch cells.
 abbrev pub roomChecks : ℕ → ℕ → ℕ → ℕ → ℕ → ℕ → List Verdict
@@ -34,11 +30,6 @@ verdict T cells marks records scratch = judged (reduceChecks T cells marks recor
 abbrev pub answerBy : Verdict → ℕ → Answer
 answerBy Fine rows = answer.Reduced rows
 answerBy (Refused number place) rows = answer.Refused number place
-
--- A lent buffer afterwards: s in front and what was there beyond it; all as it was if a rule is broken.
-abbrev pub leftBy : Verdict → List ℕ → List ℕ → List ℕ
-leftBy Fine d s = over d 0 s
-leftBy (Refused number place) d s = d
 
 -- From which length on the reduced table agrees: the offset; with none, twice the given rows.
 abbrev pub from : Offset → Table → ℕ

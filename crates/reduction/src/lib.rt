@@ -1,12 +1,12 @@
 // The reduction of a table into lent cells and mark bytes.
 ghost use mathlib.Core.Path.{_≡_};
 ghost use lib.ListN.{length};
-ghost use Rattle.rules.specs.Rules.{tableOf, offsetOf, judged};
+ghost use Rattle.rules.specs.Rules.{tableOf, offsetOf, judged, leftBy};
 ghost use Rattle.tables.specs.Table.{Valid, unit};
 ghost use Rattle.rules.specs.declared.Verdict.the-variants.{Fine};
 ghost use Rattle.tables.specs.Reduction.{reduced};
 ghost use Rattle.scratch.specs.Scratch.{needed, cleared};
-ghost use Rattle.reduction.specs.Reduce.{roomChecks, verdict, leftBy, Promise};
+ghost use Rattle.reduction.specs.Reduce.{roomChecks, verdict, Promise};
 ghost use Rattle.reduction.specs.Working.{workBy, workedBy};
 
 // The new row count, or the number and place of the first rule broken.

@@ -1,3 +1,4 @@
 pub mod Judged
 pub mod Checks
 pub mod Shape
+pub mod First

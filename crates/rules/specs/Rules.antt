@@ -5,7 +5,7 @@ use Prim.Native.Nat.{ℕ, _*_, _/_}
 use lib.Dec.{eqb, leb, ltb}
 use lib.ListN.{length, getD}
 use Rattle.tables.specs.Table.{Table, Offset, offset, none, markBytes}
-use Rattle.tables.specs.Lists.{position}
+use Rattle.tables.specs.Lists.{position, over}
 use Rattle.marks.specs.Marks.{spareSet}
 use Rattle.rules.specs.declared.Limits.{Limits}
 use Rattle.rules.specs.declared.Offset as Code
@@ -27,6 +27,11 @@ andThen (Refused number place) v = Refused number place
 abbrev pub judged : List Verdict → Verdict
 judged [] = Fine
 judged (v ∷ l) = andThen v (judged l)
+
+-- A lent buffer afterwards: s in front and what was there beyond it; all as it was if a rule is broken.
+abbrev pub leftBy : Verdict → List ℕ → List ℕ → List ℕ
+leftBy Fine d s = over d 0 s
+leftBy (Refused number place) d s = d
 
 -- The winch: 1 to 1,024 rows and 1 to 32 events.
 abbrev pub winch : Limits

@@ -5,7 +5,7 @@ use mathlib.Core.Logic.{_⊎_, inl, inr, ⊎-elim}
 use native.Mathlib.Nat.{mul-suc, suc-mul, mul-le-mul, eq-or-lt-of-le, le-of-eq}
 use native.Mathlib.Decide.{decLt}
 use native.Mathlib.Omega.{arith}
-use Rattle.scratch.specs.Scratch.{triangle, needed}
+use Rattle.scratch.specs.Scratch.{triangle, needed, scratchCells}
 
 -- Cases on two numbers.
 pub lt-or-ge : (a b : ℕ) → (a < b) ⊎ (b ≤ a)
@@ -34,7 +34,7 @@ triangle-product (suc i) =
     let e : suc i - 1 ≡ i = omega arith in
     rw e (let f : suc i * suc i ≡ suc i * i + suc i = mul-suc (suc i) i in omega (arith, f, triangle-square (suc i)))
 
-pub needed-value : (n : ℕ) → n * (n - 1) / 2 + 4 * n ≡ needed n
+pub needed-value : (n : ℕ) → scratchCells n ≡ needed n
 needed-value n = ap (λ (t : ℕ). t + 4 * n) (triangle-product n)
 
 -- Rows and events are 16-bit numbers.

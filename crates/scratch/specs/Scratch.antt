@@ -52,6 +52,10 @@ foldIn s n q = getD s (foldsAt n + q) 0
 abbrev pub needed : ℕ → ℕ
 needed n = triangle n + 4 * n
 
+-- "Scratch of rows × (rows − 1) / 2 + 4 × rows 16-bit cells."
+abbrev pub scratchCells : ℕ → ℕ
+scratchCells rows = rows * (rows - 1) / 2 + 4 * rows
+
 -- A length in a cell: 65,535 is endless.
 abbrev pub lenCell : Len → ℕ
 lenCell (len L) = L

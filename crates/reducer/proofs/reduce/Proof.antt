@@ -42,7 +42,7 @@ use denote.Exit.{yes}
 use denote.Signature.{plain, shrSliceOf}
 use Rattle.tables.specs.Table.{Table, Offset, Valid, unit as all-one}
 use Rattle.tables.specs.Reduction.{reduced}
-use Rattle.rules.specs.Rules.{tableOf, offsetOf}
+use Rattle.rules.specs.Rules.{tableOf, offsetOf, leftBy}
 use Rattle.rules.specs.declared.Offset as code-offset
 use Rattle.rules.specs.declared.Verdict.{Verdict}
 use Rattle.rules.specs.declared.Verdict.the-variants.{Fine}
@@ -56,7 +56,7 @@ use Rattle.records.proofs.write_records as write
 use Rattle.records.proofs.write_records.Symbol as write-def
 use Rattle.records.proofs.write_records.Symbol.{name as #write-records}
 use Rattle.records.proofs.write_records.Met as write-thm
-use Rattle.reduction.specs.Reduce.{verdict, leftBy}
+use Rattle.reduction.specs.Reduce.{verdict}
 use Rattle.reduction.specs.Working.{workBy, workedBy}
 use Rattle.reduction.specs.declared.Done.{Done}
 use Rattle.reducer.proofs.Again.{LentAgain, lends-again, comes-back}

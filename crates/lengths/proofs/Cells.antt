@@ -1,0 +1,40 @@
+-- Lengths in cells.
+use mathlib.Core.Path.{_≡_, sym, ap, _∙_}
+use mathlib.Core.List.{List}
+use Prim.Native.Nat.{ℕ, _+_, _-_, _≤_}
+use native.Mathlib.Omega.{arith}
+use borrow.Author.Tests.{eq-eqb, ne-eqb}
+use lib.ListN.{getD}
+use Rattle.automata.specs.Runs.{Events, Machine, Len, len, endless}
+use Rattle.tables.specs.Lengths.{beside, only, sink, lead, oneLess}
+use Rattle.tables.proofs.Lengths.{Below, distance-below}
+use Rattle.scratch.specs.Scratch.{leadsAt, leadAt, lenCell}
+use Rattle.lengths.specs.Lengths.{lenOf, depthAt}
+
+pub cell-endless : (x : ℕ) → x ≡ 65535 → lenOf x ≡ endless
+cell-endless x e = rw (eq-eqb x 65535 e)
+
+pub cell-finite : (x : ℕ) → (x ≡ 65535 → ⊥) → lenOf x ≡ len x
+cell-finite x h = rw (ne-eqb x 65535 h)
+
+-- A length of less than 65,535 is read back from its cell.
+pub len-of-cell : (n : ℕ) → n ≤ 65535 → (x : Len) → Below n x → lenOf (lenCell x) ≡ x
+len-of-cell n h (len L) b = cell-finite L (λ e. omega arith)
+len-of-cell n h endless b = cell-endless 65535 (omega arith)
+
+pub lead-below : (E : Events) (M : Machine) (q : ℕ) → Below (M .rows + 1) (lead E M q)
+unfolding lead
+lead-below E M q = distance-below E (beside (only M q) sink) (M .start) (M .rows)
+
+-- A lead less one.
+pub less-finite : (x : ℕ) → x ≤ 65535 → (x ≡ 65535 → ⊥) → lenOf (x - 1) ≡ oneLess (lenOf x)
+less-finite x b h = cell-finite (x - 1) (λ e. h (omega arith)) ∙ ap oneLess (sym (cell-finite x h))
+
+-- The lead of a row, read where the code has computed its place.
+module _ (s : List ℕ) (n q : ℕ) {t i x : ℕ} (place : t ≡ leadsAt n) (row : i ≡ q) (read : x ≡ getD s (t + i) 0) where
+  pub lead-read : x ≡ leadAt s n q
+  lead-read = rw (← place, ← row) read
+
+  -- What the lead's cell says of the depth.
+  pub depth-read : (d : ℕ) → lenOf d ≡ oneLess (lenOf x) → lenOf d ≡ depthAt n s q
+  depth-read d e = e ∙ ap (λ (c : ℕ). oneLess (lenOf c)) lead-read

@@ -1,0 +1,59 @@
+-- Calls that check a table first, and then more.
+use mathlib.Core.Path.{_≡_, refl, sym, ap, _∙_}
+use mathlib.Core.List.{List, _++_}
+use Prim.Native.Nat.{ℕ, _≤_, _<_}
+use native.Mathlib.Omega.{arith}
+use borrow.Author.Tests.{lt-ltb, le-ltb}
+use lib.ListN.{getD}
+use Rattle.tables.specs.Table.{Table, Valid}
+use Rattle.rules.specs.Rules.{andThen, judged, winch, roomRule, tableChecks}
+use Rattle.rules.specs.declared.Limits.{Limits}
+use Rattle.rules.specs.declared.Verdict.{Verdict}
+use Rattle.rules.specs.declared.Verdict.the-variants.{Fine, Refused}
+use Rattle.rules.proofs.Judged.{judged-append, refused-first, fine-first}
+use Rattle.rules.proofs.Shape.{table-fine, table-valid}
+
+-- Rule 7, of one buffer.
+pub room-broken : (needed given : ℕ) → given < needed → roomRule needed given ≡ Refused 7 0
+room-broken needed given h = rw (lt-ltb given needed h)
+
+pub room-kept : (needed given : ℕ) → needed ≤ given → roomRule needed given ≡ Fine
+room-kept needed given h = rw (le-ltb given needed h)
+
+-- The verdict as the code makes it: of the table's checks with the limits given, and then of the others.
+module _ (T : Table) {L : Limits} {v : Verdict} (l : L ≡ winch) (e : v ≡ judged (tableChecks L T)) where
+  of-table : v ≡ judged (tableChecks winch T)
+  of-table = e ∙ ap (λ (K : Limits). judged (tableChecks K T)) l
+
+  pub table-refused : (more : List Verdict) (number place : ℕ) → v ≡ Refused number place → Refused number place ≡ judged (tableChecks winch T ++ more)
+  table-refused more number place h = refused-first (tableChecks winch T) more v number place of-table h
+
+  module _ (h : v ≡ Fine) where
+    pub table-then : (more : List Verdict) {u : Verdict} → u ≡ judged more → u ≡ judged (tableChecks winch T ++ more)
+    table-then more g = g ∙ fine-first (tableChecks winch T) more v of-table h
+
+    pub few-rows : T .rows ≤ 1024
+    few-rows = table-fine winch T (sym of-table ∙ h) .0 .rows-fit
+
+    pub few-events : T .events ≤ 32
+    few-events = table-fine winch T (sym of-table ∙ h) .0 .events-fit
+
+both-fine : (u v : Verdict) → andThen u v ≡ Fine → (u ≡ Fine) × (v ≡ Fine)
+both-fine Fine v e = (refl, e)
+both-fine (Refused number place) v e = let z : _≡_ {A = ℕ} 0 1 = cc in absurd (omega arith)
+
+-- What it tells that none of them is broken.
+module _ (T : Table) (more : List Verdict) (e : judged (tableChecks winch T ++ more) ≡ Fine) where
+  parts : (judged (tableChecks winch T) ≡ Fine) × (judged more ≡ Fine)
+  parts = both-fine (judged (tableChecks winch T)) (judged more) (sym (judged-append (tableChecks winch T) more) ∙ e)
+
+  pub more-fine : judged more ≡ Fine
+  more-fine = parts .1
+
+  -- Mark bytes are bytes, as the code's types say.
+  pub fine-valid : ((i : ℕ) → getD (T .marks) i 0 < 256) → Valid T
+  fine-valid bytes = table-valid T bytes .0 (parts .0)
+
+-- A valid table is judged by the others.
+pub valid-then : (T : Table) → Valid T → (more : List Verdict) → judged (tableChecks winch T ++ more) ≡ judged more
+valid-then T v more = judged-append (tableChecks winch T) more ∙ rw (table-valid T (v .bytes) .1 v) refl
