@@ -1,76 +1,13 @@
 -- Equivalences on the numbers below n: how many classes they have, and when a chain of them comes to rest.
-use mathlib.Core.Path.{_≡_, refl, sym, subst}
-use mathlib.Core.Bool.{Bool, true, false, not, false≢true}
+use mathlib.Core.Path.{_≡_, sym, subst}
+use mathlib.Core.Bool.{Bool, true, false, not}
 use mathlib.Core.Logic.{_⊎_, inl, inr}
 use Prim.Native.Nat.{ℕ, zero, suc, _+_, _≤_, _<_}
 use native.Mathlib.Omega.{arith}
 use native.Mathlib.Decide.{decLe}
 use Rattle.automata.specs.Nearness.{every}
+use Rattle.automata.proofs.Count.{count, count-bound, count-some, count-same}
 use Rattle.automata.proofs.Tests.{either, clash, not-true, flip-true, last-or-less, every-at, every-make}
-
--- ---- how many numbers below n pass a test
-
-abbrev bit : Bool → ℕ
-bit true = 1
-bit false = 0
-
-bit-le : (a b : Bool) → (a ≡ true → b ≡ true) → bit a ≤ bit b
-bit-le true true h = omega arith
-bit-le true false h = absurd (false≢true (h refl))
-bit-le false true h = omega arith
-bit-le false false h = omega arith
-
-bit-one : (a : Bool) → bit a ≤ 1
-bit-one true = omega arith
-bit-one false = omega arith
-
-bit-back : (a b : Bool) → bit b ≤ bit a → b ≡ true → a ≡ true
-bit-back true b h e = refl
-bit-back false true h e = absurd (omega arith)
-bit-back false false h e = e
-
-bit-yes : (a : Bool) → a ≡ true → 1 ≤ bit a
-bit-yes true e = omega arith
-bit-yes false e = absurd (false≢true e)
-
-count : (ℕ → Bool) → ℕ → ℕ
-count f zero = 0
-count f (suc n) = bit (f n) + count f n
-
-count-bound : (f : ℕ → Bool) (n : ℕ) → count f n ≤ n
-unfolding count
-count-bound f zero = omega arith
-count-bound f (suc n) = omega (arith, count-bound f n, bit-one (f n))
-
-count-some : (f : ℕ → Bool) (n i : ℕ) → i < n → f i ≡ true → 1 ≤ count f n
-unfolding count
-count-some f zero i h e = absurd (omega arith)
-count-some f (suc n) i h e = pick (last-or-less i n h) (count-some f n i)
-  where
-    pick : (i ≡ n) ⊎ (i < n) → (i < n → f i ≡ true → 1 ≤ count f n) → 1 ≤ bit (f n) + count f n
-    pick (inl g) ih = omega (arith, bit-yes (f n) (subst (λ (j : ℕ). f j ≡ true) g e))
-    pick (inr g) ih = omega (arith, ih g e)
-
-module _ (f g : ℕ → Bool) where
-  count-le : (n : ℕ) → ((i : ℕ) → i < n → f i ≡ true → g i ≡ true) → count f n ≤ count g n
-  unfolding count
-  count-le zero h = omega arith
-  count-le (suc n) h = omega (arith, count-le n (λ i l. h i (omega arith)), bit-le (f n) (g n) (h n (omega arith)))
-
-  -- If f implies g and passes no less often, then g implies f.
-  count-same : (n : ℕ) → ((i : ℕ) → i < n → f i ≡ true → g i ≡ true) → count g n ≤ count f n → (i : ℕ) → i < n → g i ≡ true → f i ≡ true
-  unfolding count
-  count-same zero h c i l e = absurd (omega arith)
-  count-same (suc n) h c i l e =
-      let b = bit-le (f n) (g n) (h n (omega arith)) in
-      let r = count-le n (λ j k. h j (omega arith)) in
-      pick (last-or-less i n l) (count-same n (λ j k. h j (omega arith)) (omega arith))
-    where
-      pick : (i ≡ n) ⊎ (i < n) → ((i : ℕ) → i < n → g i ≡ true → f i ≡ true) → f i ≡ true
-      pick (inl k) ih =
-          let r = count-le n (λ j m. h j (omega arith)) in
-          subst (λ (j : ℕ). f j ≡ true) (sym k) (bit-back (f n) (g n) (omega arith) (subst (λ (j : ℕ). g j ≡ true) k e))
-      pick (inr k) ih = ih i k e
 
 -- ---- classes
 

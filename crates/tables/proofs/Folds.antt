@@ -18,16 +18,17 @@ use Rattle.tables.specs.Lists.{tabulate, some}
 use Rattle.tables.specs.Table.{offset}
 use Rattle.tables.specs.Reduction.{sameLen, level, levels, order, similar, kept, fold}
 use Rattle.tables.proofs.Lists.{mem-left, mem-right, mem-cases, mem-tabulate, tabulate-mem, filter-mem, mem-filter, pairwise-append, pairwise-all, pairwise-cases, pairwise-map}
-use Rattle.tables.proofs.Lists.{some-has, has-some, first-is, Apart, sift-all, sift-apart, Cover, ordered-nil, sift-ordered, sift-covers}
+use Rattle.tables.proofs.Lists.{some-mem, mem-some, first-is, Apart, sift-all, sift-apart, Cover, ordered-nil, sift-ordered, sift-covers}
 use Rattle.tables.proofs.Similar.{similar-holds, similar-found, similar-refl, similar-sym}
 
-same-len : (d e : Len) → sameLen d e ≡ true → d ≡ e
+-- Lengths that `sameLen` takes as equal are.
+pub same-len : (d e : Len) → sameLen d e ≡ true → d ≡ e
 same-len (len d) (len e) t = ap len (eqb-true d e t)
 same-len (len d) endless t = clash t refl
 same-len endless (len e) t = clash t refl
 same-len endless endless t = refl
 
-len-same : (d : Len) → sameLen d d ≡ true
+pub len-same : (d : Len) → sameLen d d ≡ true
 len-same (len d) = eq-eqb d d refl
 len-same endless = refl
 
@@ -40,7 +41,7 @@ module _ (E : Events) (M : Machine) where
   abbrev pub Deeper : ℕ → ℕ → Type 0
   Deeper x y = depth E M y ⊑ depth E M x
 
-  level-mem : (d : Len) (q : ℕ) → Mem q (level E M d) → (q < M .rows) × (reached E M q ≡ true) × (depth E M q ≡ d)
+  pub level-mem : (d : Len) (q : ℕ) → Mem q (level E M d) → (q < M .rows) × (reached E M q ≡ true) × (depth E M q ≡ d)
   unfolding level
   level-mem d q h =
       let m = filter-mem _ (tabulate (M .rows) (λ x. x)) q h in
@@ -55,7 +56,7 @@ module _ (E : Events) (M : Machine) where
   mem-level q h u = mem-filter _ (tabulate (M .rows) (λ x. x)) q (mem-tabulate (M .rows) (λ x. x) q h)
       (and-make (reached E M q) (sameLen (depth E M q) (depth E M q)) u (len-same (depth E M q)))
 
-  levels-mem : (n q : ℕ) → Mem q (levels E M n) → (d : ℕ) × (d < n) × Mem q (level E M (len d))
+  pub levels-mem : (n q : ℕ) → Mem q (levels E M n) → (d : ℕ) × (d < n) × Mem q (level E M (len d))
   unfolding levels
   levels-mem zero q h = absurd h
   levels-mem (suc n) q h = pick (mem-cases (level E M (len n)) (levels E M n) q h) (levels-mem n q)
@@ -181,11 +182,9 @@ module _ {E : Events} {M : Machine} (s : Sound E M) (z : Light E) (k : ℕ) wher
       let p : ℕ = fold E M (offset k) q in
       elim (either (some (eqb q) (kept E M (offset k)))) [
         | inl t ↦
-            let r = some-has (eqb q) (kept E M (offset k)) t in
-            let own = subst (λ (x : ℕ). Mem x (kept E M (offset k))) (sym (eqb-true q (r .0) (r .2))) (r .1) in
-            t ∙ sym (eq-eqb p q (sym (apart-one q p own (i .is-kept) (i .alike))))
+            t ∙ sym (eq-eqb p q (sym (apart-one q p (some-mem q (kept E M (offset k)) t) (i .is-kept) (i .alike))))
         | inr f ↦ elim (either (eqb p q)) [
-          | inl t ↦ clash (has-some (eqb q) (kept E M (offset k)) p (i .is-kept) (eq-eqb q p (sym (eqb-true p q t)))) f
+          | inl t ↦ clash (mem-some q (kept E M (offset k)) (subst (λ (x : ℕ). Mem x (kept E M (offset k))) (eqb-true p q t) (i .is-kept))) f
           | inr g ↦ f ∙ sym g
         ]
       ]

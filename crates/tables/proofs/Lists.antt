@@ -2,14 +2,16 @@
 use mathlib.Core.Path.{_≡_, refl, sym, ap, subst, _∙_}
 use mathlib.Core.Bool.{Bool, true, false}
 use mathlib.Core.List.{List, [], _∷_, _++_, append-nil, append-assoc}
-use mathlib.Core.Logic.{_⊎_, inl, inr}
+use mathlib.Core.Logic.{_⊎_, inl, inr, _≢_}
 use Prim.Native.Nat.{ℕ, zero, suc, _≤_, _<_, zero-le, suc-le-suc}
 use native.Mathlib.Omega.{arith}
 use native.Mathlib.Decide.{decLe, decLt}
 use lib.Dec.{eqb}
-use borrow.Author.Tests.{eqb-true, eq-eqb}
-use lib.ListN.{length, getD, List·getD-eq-default}
-use Rattle.automata.proofs.Tests.{either, clash, or-cases, or-left, or-right}
+use borrow.Author.Tests.{eqb-true, eq-eqb, ne-eqb}
+use lib.ListN.{length, getD, take, length-take, List·getD-eq-default}
+use lib.Seq.{getD-take}
+use Rattle.automata.proofs.Count.{count, count-none, count-also}
+use Rattle.automata.proofs.Tests.{either, clash, not-true, or-cases, or-left, or-right}
 use Rattle.automata.proofs.Lists.{Mem, Pairwise, Distinct, pigeonhole}
 use Rattle.tables.specs.Lists.{tabulate, filter, some, first, position, place, sift}
 
@@ -77,6 +79,16 @@ mem-at [] x d h = absurd h
 mem-at (y ∷ l) x d (inl e) = (0, omega arith, sym e)
 mem-at (y ∷ l) x d (inr h) = let r = mem-at l x d h in (suc (r .0), omega (arith, r .1), r .2)
 
+-- A member of the first i stands at a place below i, and what stands there is one.
+pub mem-take : (l : List ℕ) (i x d : ℕ) → Mem x (take i l) → (h : ℕ) × (h < i) × (h < length l) × (getD l h d ≡ x)
+mem-take l i x d m =
+    let r = mem-at (take i l) x d m in
+    let b : r .0 < i = omega (arith, r .1, length-take i l) in
+    (r .0, b, omega (arith, r .1, length-take i l), sym (getD-take i l (r .0) d b) ∙ r .2)
+
+pub take-mem : (l : List ℕ) (i h d : ℕ) → h < i → h < length l → Mem (getD l h d) (take i l)
+take-mem l i h d b g = subst (λ (x : ℕ). Mem x (take i l)) (getD-take i l h d b) (at-mem (take i l) h d (omega (arith, length-take i l)))
+
 -- A member read with a member for the default.
 pub read-mem : (l : List ℕ) (i d : ℕ) → Mem d l → Mem (getD l i d) l
 read-mem l i d h = elim (decLe (length l) i) [
@@ -141,6 +153,13 @@ has-some f (y ∷ l) x (inr h) t = or-right (f y) (some f l) (has-some f l x h t
 pub none-has : (f : ℕ → Bool) (l : List ℕ) → some f l ≡ false → (x : ℕ) → Mem x l → f x ≡ false
 none-has f l e x h = elim (either (f x)) [ inl t ↦ clash (has-some f l x h t) e | inr t ↦ t ]
 
+-- The test whether x is a member.
+pub some-mem : (x : ℕ) (l : List ℕ) → some (eqb x) l ≡ true → Mem x l
+some-mem x l t = let r = some-has (eqb x) l t in subst (λ (y : ℕ). Mem y l) (sym (eqb-true x (r .0) (r .2))) (r .1)
+
+pub mem-some : (x : ℕ) (l : List ℕ) → Mem x l → some (eqb x) l ≡ true
+mem-some x l h = has-some (eqb x) l x h (eq-eqb x x refl)
+
 -- ---- lists whose members stand in a relation
 
 module _ (R : ℕ → ℕ → Type 0) where
@@ -169,6 +188,39 @@ module _ (R : ℕ → ℕ → Type 0) where
   pub pairwise-map : (S : ℕ → ℕ → Type 0) (l : List ℕ) → ((x y : ℕ) → Mem x l → Mem y l → R x y → S x y) → Pairwise R l → Pairwise S l
   pairwise-map S [] h pl = tt
   pairwise-map S (x ∷ l) h pl = (λ y g. h x y (inl refl) (inr g) (pl .0 y g), pairwise-map S l (λ y z hy hz. h y z (inr hy) (inr hz)) (pl .1))
+
+  -- A member stands in the relation to those at later places.
+  pub pairwise-at : (l : List ℕ) → Pairwise R l → (i j d : ℕ) → i < j → j < length l → R (getD l i d) (getD l j d)
+  pairwise-at [] p i j d h g = absurd (omega arith)
+  pairwise-at (x ∷ l) p i zero d h g = absurd (omega arith)
+  pairwise-at (x ∷ l) p zero (suc j) d h g = p .0 (getD l j d) (at-mem l j d (omega arith))
+  pairwise-at (x ∷ l) p (suc i) (suc j) d h g = pairwise-at l (p .1) i j d (omega arith) (omega arith)
+
+  pub pairwise-filter : (f : ℕ → Bool) (l : List ℕ) → Pairwise R l → Pairwise R (filter f l)
+  unfolding filter
+  pairwise-filter f [] p = tt
+  pairwise-filter f (x ∷ l) p = pick (f x) (pairwise-filter f l (p .1))
+    where
+      pick : (b : Bool) → Pairwise R (filter f l) → Pairwise R (elim b [ true ↦ x ∷ filter f l | false ↦ filter f l ])
+      pick true ih = (λ y m. p .0 y (filter-mem f l y m .0), ih)
+      pick false ih = ih
+
+-- A rising function gives a rising list.
+pub tabulate-rises : (n : ℕ) (f : ℕ → ℕ) → ((i j : ℕ) → i < j → f i < f j) → Pairwise _<_ (tabulate n f)
+unfolding tabulate
+tabulate-rises zero f h = tt
+tabulate-rises (suc n) f h = (
+  λ y m. (let r = tabulate-mem n (λ i. f (suc i)) y m in omega (arith, r .2, h 0 (suc (r .0)) (omega arith))),
+  tabulate-rises n (λ i. f (suc i)) (λ i j g. h (suc i) (suc j) (omega arith)),
+)
+
+-- A list with no repeats is as long as there are numbers that are in it.
+pub distinct-count : (l : List ℕ) (n : ℕ) → Distinct l → ((x : ℕ) → Mem x l → x < n) → length l ≡ count (λ q. some (eqb q) l) n
+unfolding some
+distinct-count [] n dl below = sym (count-none n)
+distinct-count (x ∷ l) n dl below =
+    ap suc (distinct-count l n (dl .1) (λ y m. below y (inr m))) ∙ sym (count-also (λ q. some (eqb q) l) n x (below x (inl refl))
+    (not-true (some (eqb x) l) (λ t. dl .0 x (some-mem x l t) refl)))
 
 -- ---- first
 
@@ -252,6 +304,15 @@ place-in x l h = position-in (eqb x) l x h (eq-eqb x x refl)
 
 pub place-at : (x : ℕ) (l : List ℕ) → Mem x l → getD l (place x l) 0 ≡ x
 place-at x l h = sym (eqb-true x (getD l (place x l) 0) (position-passes (eqb x) l 0 (place-in x l h)))
+
+-- In a list with no repeats, a member's place is where it stands,
+pub place-is : (l : List ℕ) → Distinct l → (i : ℕ) → i < length l → place (getD l i 0) l ≡ i
+place-is l dl i h = position-is (eqb (getD l i 0)) l i 0 (omega arith)
+    (λ j g. ne-eqb (getD l i 0) (getD l j 0) (λ e. pairwise-at _≢_ l dl j i 0 g h (sym e))) (λ g. eq-eqb (getD l i 0) (getD l i 0) refl)
+
+-- and it stands at no other.
+pub place-one : (l : List ℕ) → Distinct l → (i j : ℕ) → i < length l → j < length l → getD l i 0 ≡ getD l j 0 → i ≡ j
+place-one l dl i j hi hj e = sym (place-is l dl i hi) ∙ ap (λ (x : ℕ). place x l) e ∙ place-is l dl j hj
 
 -- A list with no repeats is no longer than one that has all its members.
 pub subset-length : (l m : List ℕ) → Distinct l → ((x : ℕ) → Mem x l → Mem x m) → length l ≤ length m
