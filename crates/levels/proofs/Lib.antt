@@ -1,0 +1,4 @@
+pub mod Need
+pub mod Order
+pub mod Folds
+pub mod Sheet
