@@ -9,7 +9,7 @@ use Rattle.automata.specs.Runs.{Events, Machine, Len, len, endless}
 use Rattle.tables.specs.Lengths.{beside, only, sink, lead, oneLess}
 use Rattle.tables.proofs.Lengths.{Below, distance-below}
 use Rattle.scratch.specs.Scratch.{leadsAt, leadAt, lenCell}
-use Rattle.lengths.specs.Lengths.{lenOf, depthAt}
+use Rattle.lengths.specs.Lengths.{lenOf}
 
 pub cell-endless : (x : ℕ) → x ≡ 65535 → lenOf x ≡ endless
 cell-endless x e = rw (eq-eqb x 65535 e)
@@ -31,10 +31,5 @@ pub less-finite : (x : ℕ) → x ≤ 65535 → (x ≡ 65535 → ⊥) → lenOf 
 less-finite x b h = cell-finite (x - 1) (λ e. h (omega arith)) ∙ ap oneLess (sym (cell-finite x h))
 
 -- The lead of a row, read where the code has computed its place.
-module _ (s : List ℕ) (n q : ℕ) {t i x : ℕ} (place : t ≡ leadsAt n) (row : i ≡ q) (read : x ≡ getD s (t + i) 0) where
-  pub lead-read : x ≡ leadAt s n q
-  lead-read = rw (← place, ← row) read
-
-  -- What the lead's cell says of the depth.
-  pub depth-read : (d : ℕ) → lenOf d ≡ oneLess (lenOf x) → lenOf d ≡ depthAt n s q
-  depth-read d e = e ∙ ap (λ (c : ℕ). oneLess (lenOf c)) lead-read
+pub lead-read : (s : List ℕ) (n q : ℕ) {t i x : ℕ} → t ≡ leadsAt n → i ≡ q → x ≡ getD s (t + i) 0 → x ≡ leadAt s n q
+lead-read s n q place row read = rw (← place, ← row) read

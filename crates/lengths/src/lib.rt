@@ -2,7 +2,7 @@
 ghost use mathlib.Core.Path.{_≡_};
 ghost use lib.ListN.{length};
 ghost use Rattle.rules.specs.Rules.{tableOf};
-ghost use Rattle.scratch.specs.Scratch.{workable};
+ghost use Rattle.scratch.specs.Scratch.{leadAt, workable};
 ghost use Rattle.lengths.specs.Lengths.{lengthsIn, lenOf, depthAt};
 
 // A length that has no end.
@@ -29,11 +29,18 @@ pub fn find_lengths(
     true
 }
 
+// The lead of a row: one more than its depth, 0 if it is unreached.
+pub fn lead(scratch: &[u16], rows: u16, row: u16) -> u16
+    ensures { λ r. ⌜ r ≡ leadAt (now (scratch .entry)) rows row ⌝ }
+{
+    scratch::cell(scratch, scratch::leads_at(rows) + rules::wide(row))
+}
+
 // The depth of a row: its lead less one.
 pub fn depth(scratch: &[u16], rows: u16, row: u16) -> u16
     ensures { λ r. ⌜ lenOf r ≡ depthAt rows (now (scratch .entry)) row ⌝ }
 {
-    let lead = scratch::cell(scratch, scratch::leads_at(rows) + rules::wide(row));
+    let lead = lead(scratch, rows, row);
     if lead == ENDLESS {
         return ENDLESS;
     }

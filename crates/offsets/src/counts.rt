@@ -1,0 +1,128 @@
+// How many rows are kept at each offset, found in a scratch that holds the distances and the leads.
+ghost use mathlib.Core.Path.{_≡_};
+ghost use Prim.Native.Nat.{_+_, _*_, _≤_, _<_};
+ghost use lib.ListN.{length, getD};
+ghost use Rattle.tables.specs.Lists.{tabulate, over};
+ghost use Rattle.scratch.specs.Scratch.{lenCell};
+ghost use Rattle.lengths.specs.Lengths.{lenOf};
+ghost use Rattle.levels.specs.Levels.{till};
+ghost use Rattle.offsets.specs.Sheet.{entries};
+ghost use Rattle.offsets.specs.Steps.{aheadAt, nearer as nearerOf, apartAt, goesAt, goneAt, keptAt, counted, leftOf, Enough};
+
+// A length that has no end.
+const ENDLESS: u16 = 65535;
+
+// Whether row p comes before row q in the order: it is deeper, or as deep and its number is lower.
+fn ahead(scratch: &[u16], rows: u16, q: u16, p: u16) -> bool
+    ensures { λ r. ⌜ r ≡ aheadAt rows (now (scratch .entry)) q p ⌝ }
+{
+    let own = lengths::lead(scratch, rows, q);
+    let other = lengths::lead(scratch, rows, p);
+    if own < other {
+        return true;
+    }
+    if other < own {
+        return false;
+    }
+    p < q
+}
+
+// The lesser of a distance and that of rows q and p, if p comes before q.
+fn nearer(scratch: &[u16], rows: u16, q: u16, p: u16, least: u16) -> u16
+    ensures { λ r. ⌜ r ≡ nearerOf rows (now (scratch .entry)) q p least ⌝ }
+{
+    if ahead(scratch, rows, q, p) {
+        let distance = scratch::pair(scratch, q, p);
+        if distance < least {
+            return distance;
+        }
+    }
+    least
+}
+
+// The least distance of a row from one that comes before it.
+fn apart(scratch: &[u16], rows: u16, q: u16) -> u16
+    ensures { λ r. ⌜ r ≡ apartAt rows (now (scratch .entry)) q rows ⌝ }
+{
+    let mut least = ENDLESS;
+    let mut p = 0;
+    while p < rows {
+        least = nearer(scratch, rows, q, p, least);
+        p += 1;
+    }
+    least
+}
+
+// The first offset at which a row is not kept, by its least distance from those before it and its depth.
+fn first_gone(least: u16, depth: u16) -> usize
+    ensures { λ r. ⌜ r ≡ lenCell (till (lenOf least) (lenOf depth)) ⌝ }
+{
+    if least == 0 {
+        return 0;
+    }
+    if least == ENDLESS {
+        return rules::wide(ENDLESS);
+    }
+    if depth == ENDLESS {
+        return rules::wide(ENDLESS);
+    }
+    rules::wide(least) + rules::wide(depth)
+}
+
+// The same of a row in scratch; an unreached one is kept at no offset.
+fn goes_at(scratch: &[u16], rows: u16, q: u16) -> usize
+    ensures { λ r. ⌜ r ≡ goesAt rows (now (scratch .entry)) q ⌝ }
+{
+    if lengths::lead(scratch, rows, q) == 0 {
+        return 0;
+    }
+    let least = apart(scratch, rows, q);
+    first_gone(least, lengths::depth(scratch, rows, q))
+}
+
+// Counts one more at a place, if that is one of the first `count`.
+fn count_one(list: &mut [u16], count: usize, at: usize)
+    requires { ⌜ (count ≤ length (now list)) × (getD (now list) at 0 < 65535) ⌝ }
+    ensures { λ _. ⌜ now (list .exit) ≡ counted (now (list .entry)) count at ⌝ }
+{
+    if at < count {
+        list[at] = list[at] + 1;
+    }
+}
+
+// Counts in the first `count` places how many rows go at each offset.
+fn tally(scratch: &[u16], rows: u16, list: &mut [u16], count: usize)
+    requires { ⌜ count ≤ length (now list) ⌝ }
+    ensures { λ _. ⌜ now (list .exit) ≡ over (now (list .entry)) 0 (tabulate count (goneAt rows (now (scratch .entry)) rows)) ⌝ }
+{
+    scratch::clear(list, 0, count);
+    let mut q = 0;
+    while q < rows {
+        count_one(list, count, goes_at(scratch, rows, q));
+        q += 1;
+    }
+}
+
+// Puts for each of the first `count` numbers what is left of the rows once it and those before it have gone.
+fn settle(list: &mut [u16], rows: u16, count: usize)
+    requires { ⌜ Enough rows count (now list) ⌝ }
+    ensures { λ _. ⌜ (let l = now (list .entry) in now (list .exit) ≡ over l 0 (tabulate count (λ k. leftOf rows l (k + 1)))) ⌝ }
+{
+    let mut left = rows;
+    let mut k = 0;
+    while k < count {
+        left -= list[k];
+        list[k] = left;
+        k += 1;
+    }
+}
+
+// Writes how many rows are kept at each offset from 0 to twice the rows.
+pub(crate) fn fill(scratch: &[u16], rows: u16, list: &mut [u16])
+    requires { ⌜ entries rows ≤ length (now list) ⌝ }
+    ensures { λ _. ⌜ now (list .exit) ≡ over (now (list .entry)) 0 (tabulate (entries rows) (keptAt rows (now (scratch .entry)))) ⌝ }
+{
+    let count = 2 * rules::wide(rows) + 1;
+    tally(scratch, rows, list, count);
+    settle(list, rows, count);
+}
