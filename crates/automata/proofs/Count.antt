@@ -83,6 +83,11 @@ module _ (f g : ℕ → Bool) where
   count-cong zero h = refl
   count-cong (suc n) h = rw (h n (omega arith), count-cong n (λ i l. h i (omega arith)))
 
+pub count-all : (f : ℕ → Bool) (n : ℕ) → ((i : ℕ) → i < n → f i ≡ true) → count f n ≡ n
+unfolding count
+count-all f zero h = refl
+count-all f (suc n) h = rw (h n (omega arith), count-all f n (λ i l. h i (omega arith))) (omega arith)
+
 pub count-none : (n : ℕ) → count (λ i. false) n ≡ 0
 unfolding count
 count-none zero = refl

@@ -82,7 +82,7 @@ fn goes_at(scratch: &[u16], rows: u16, q: u16) -> usize
 
 // Counts one more at a place, if that is one of the first `count`.
 fn count_one(list: &mut [u16], count: usize, at: usize)
-    requires { ⌜ (count ≤ length (now list)) × (getD (now list) at 0 < 65535) ⌝ }
+    requires { ⌜ (count ≤ length (now list)) × (at < count → getD (now list) at 0 < 65535) ⌝ }
     ensures { λ _. ⌜ now (list .exit) ≡ counted (now (list .entry)) count at ⌝ }
 {
     if at < count {

@@ -2,6 +2,7 @@
 use mathlib.Core.Path.{_≡_, sym, ap, subst, _∙_}
 use mathlib.Core.List.{List, [], _∷_, _++_, append-assoc, append-nil}
 use Prim.Native.Nat.{ℕ, suc, _+_, _-_, _≤_, _<_}
+use native.Mathlib.Nat.{zero-add}
 use native.Mathlib.Omega.{arith}
 use native.Mathlib.Decide.{decLt}
 use lib.ListN.{length, getD, take, drop, set, length-append, length-drop, take-append-drop, List·getD-append}
@@ -153,6 +154,17 @@ over-tabulate s s′ at n f e room before here behind = ext-getD 0 s′ (over s 
         | no g ↦ behind k (omega arith) ∙ sym (over-behind s at t fits k 0 (omega (arith, count)))
       ]
     ]
+
+-- The same in front.
+pub front-tabulate : (s s′ : List ℕ) (n : ℕ) (f : ℕ → ℕ) → length s′ ≡ length s → n ≤ length s → ((i : ℕ) → i < n → getD s′ i 0 ≡ f i) → ((k : ℕ) → n ≤ k → getD s′ k 0 ≡ getD s k 0)
+    → s′ ≡ over s 0 (tabulate n f)
+front-tabulate s s′ n f e room here behind =
+    over-tabulate s s′ 0 n f e (omega arith) (λ k h. absurd (omega arith)) (λ i h. ap (λ (j : ℕ). getD s′ j 0) (zero-add i) ∙ here i h) (λ k h. behind k (omega arith))
+
+pub front-at : (s : List ℕ) (n : ℕ) (f : ℕ → ℕ) → n ≤ length s → (i : ℕ) → i < n → getD (over s 0 (tabulate n f)) i 0 ≡ f i
+front-at s n f room i h =
+    ap (λ (j : ℕ). getD (over s 0 (tabulate n f)) j 0) (sym (zero-add i))
+    ∙ over-inside s 0 (tabulate n f) (omega (arith, tabulate-length n f)) i 0 (omega (arith, tabulate-length n f)) ∙ tabulate-at n f i 0 h
 
 -- Written at two places that do not meet, in either order.
 pub over-swap : (d : List ℕ) (at : ℕ) (s : List ℕ) (to : ℕ) (t : List ℕ) → to + length t ≤ at → at + length s ≤ length d → over (over d at s) to t ≡ over (over d to t) at s
