@@ -78,22 +78,25 @@ module _ (f g : ℕ → Bool) where
           subst (λ (j : ℕ). f j ≡ true) (sym k) (bit-back (f n) (g n) (omega arith) (subst (λ (j : ℕ). g j ≡ true) k e))
       pick (inr k) ih = ih i k e
 
+  -- Equal tests pass equally often.
   pub count-cong : (n : ℕ) → ((i : ℕ) → i < n → f i ≡ g i) → count f n ≡ count g n
   unfolding count
   count-cong zero h = refl
   count-cong (suc n) h = rw (h n (omega arith), count-cong n (λ i l. h i (omega arith)))
 
+-- Where all pass.
 pub count-all : (f : ℕ → Bool) (n : ℕ) → ((i : ℕ) → i < n → f i ≡ true) → count f n ≡ n
 unfolding count
 count-all f zero h = refl
 count-all f (suc n) h = rw (h n (omega arith), count-all f n (λ i l. h i (omega arith))) (omega arith)
 
+-- Where none passes.
 pub count-none : (n : ℕ) → count (λ i. false) n ≡ 0
 unfolding count
 count-none zero = refl
 count-none (suc n) = omega (arith, count-none n)
 
--- One number more passes.
+-- Where one number more is to pass.
 pub count-also : (f : ℕ → Bool) (n x : ℕ) → x < n → f x ≡ false → count (λ i. eqb i x || f i) n ≡ suc (count f n)
 unfolding count
 count-also f zero x h e = absurd (omega arith)

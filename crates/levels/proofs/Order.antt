@@ -23,15 +23,18 @@ use Rattle.levels.proofs.Need.{need-deep}
 
 -- ---- lengths
 
+-- No two lengths are longer than one another,
 longer-one-way : (x y : Len) → longer x y ≡ true → longer y x ≡ true → ⊥
 longer-one-way (len a) (len b) t u = omega (arith, ltb-true b a t, ltb-true a b u)
 longer-one-way (len a) endless t u = clash t refl
 longer-one-way endless (len b) t u = clash u refl
 longer-one-way endless endless t u = clash t refl
 
+-- none is longer than itself,
 longer-not-same : (x y : Len) → longer x y ≡ true → x ≡ y → ⊥
 longer-not-same x y t e = let u = subst (λ (z : Len). longer x z ≡ true) (sym e) t in longer-one-way x x u u
 
+-- and 0 is longer than none.
 longer-zero : (y : Len) → longer (len 0) y ≡ true → ⊥
 longer-zero (len b) t = omega (arith, ltb-true b 0 t)
 longer-zero endless t = clash t refl
@@ -82,6 +85,7 @@ module _ (E : Events) (M : Machine) where
 
   -- ---- the order
 
+  -- Rows of equal depth have equal leads.
   level-lead : (d : Len) (q p : ℕ) → Mem q (level E M d) → Mem p (level E M d) → lead E M q ≡ lead E M p
   level-lead (len d) q p hq hp =
       let r = level-mem E M (len d) q hq in
@@ -115,6 +119,7 @@ module _ (E : Events) (M : Machine) where
       let t = level-mem E M (len (l .0)) y (l .2) in
       is-ahead y x (inl (rw (lead-endless E M x (level-mem E M endless x hx .2), lead-reached E M y (l .0) (t .1) (t .2)))))
 
+  -- So the order has no repeats.
   pub order-distinct : Distinct (order E M)
   order-distinct = pairwise-map Earlier _≢_ (order E M) (λ x y hx hy t e.
       let u = subst (λ (z : ℕ). ahead E M z x ≡ true) (sym e) t in

@@ -1,4 +1,4 @@
--- The sheet: at which offsets a row is kept, and how many are.
+-- The sheet: at which offsets a row is kept, by its depth and its least distance from the rows before it; and how many are.
 use mathlib.Core.Path.{_≡_, refl, sym, ap, subst, _∙_}
 use mathlib.Core.Bool.{Bool, true, false, cond}
 use mathlib.Core.List.{List, [], _∷_}
@@ -32,6 +32,7 @@ abbrev pub Within : Len → ℕ → Type 0
 Within (len m) L = m ≤ L
 Within endless L = ⊥
 
+-- The shorter of two lengths is at most L just if one of them is.
 within-left : (x y : Len) (L : ℕ) → Within x L → Within (shorter x y) L
 within-left (len a) (len b) L h = omega arith
 within-left (len a) endless L h = h
@@ -47,7 +48,7 @@ within-cases (len a) (len b) L h = elim (decLe a L) [ yes g ↦ inl g | no g ↦
 within-cases (len a) endless L h = inl h
 within-cases endless y L h = inr h
 
--- A length is told by the numbers that it is at most.
+-- A length is determined by the numbers that it is at most.
 within-one : (x y : Len) → ((L : ℕ) → Within x L → Within y L) → ((L : ℕ) → Within y L → Within x L) → x ≡ y
 within-one (len a) (len b) f g =
     let e : a ≡ b = omega (arith, f a (omega arith), g b (omega arith)) in
@@ -72,6 +73,7 @@ till-kept k endless d h = refl
 module _ {E : Events} {M : Machine} (s : Sound E M) (z : Light E) where
   -- ---- the least distance
 
+  -- A distance is at most L just if the rows are near at level L.
   within-near : (q p L : ℕ) → q < M .rows → p < M .rows → Within (distance E M q p) L → Near E M M L q p
   within-near q p L hq hp = pick (distance E M q p) (distance-is s z hq hp)
     where
@@ -86,7 +88,7 @@ module _ {E : Events} {M : Machine} (s : Sound E M) (z : Light E) where
       pick (len D) h = h .1 L n
       pick endless h = h L n
 
-  -- It is at most L just if some row of the list is near at level L.
+  -- The least from a list of rows is, just if some row of the list is near at level L;
   nearest-holds : (q L : ℕ) → q < M .rows → (l : List ℕ) → ((p : ℕ) → Mem p l → p < M .rows) → Within (nearest E M q l) L → (p : ℕ) × Mem p l × Near E M M L q p
   unfolding nearest
   nearest-holds q L hq [] rows h = absurd h
@@ -102,7 +104,7 @@ module _ {E : Events} {M : Machine} (s : Sound E M) (z : Light E) where
   nearest-found q L p hq hp (x ∷ l) (inl e) n = within-left (distance E M q x) (nearest E M q l) L (subst (λ (y : ℕ). Within (distance E M q y) L) e (near-within q p L hq hp n))
   nearest-found q L p hq hp (x ∷ l) (inr m) n = within-right (distance E M q x) (nearest E M q l) L (nearest-found q L p hq hp l m n)
 
-  -- The same of the first m rows that pass a test.
+  -- and that from the rows below m that pass a test, just if one of those is.
   nearestOf-holds : (q L : ℕ) (f : ℕ → Bool) → q < M .rows → (m : ℕ) → m ≤ M .rows → Within (nearestOf E M q f m) L → (p : ℕ) × (p < m) × (f p ≡ true) × Near E M M L q p
   unfolding nearestOf
   nearestOf-holds q L f hq zero b h = absurd h
@@ -132,6 +134,7 @@ module _ {E : Events} {M : Machine} (s : Sound E M) (z : Light E) where
 
   -- ---- the least distance from the rows before a row
 
+  -- The rows before place j are the first j of the order.
   apart-at : (j : ℕ) → j < length (order E M) → apart E M (rowAt E M j) ≡ nearest E M (rowAt E M j) (take j (order E M))
   unfolding apart before
   apart-at j h = ap (λ (i : ℕ). nearest E M (rowAt E M j) (take i (order E M))) (place-is (order E M) (order-distinct E M) j h)
@@ -168,6 +171,7 @@ module _ {E : Events} {M : Machine} (s : Sound E M) (z : Light E) where
 
   -- ---- the sheet
 
+  -- By places, with an offset.
   sheet-at : (k j : ℕ) → j < length (order E M) → some (eqb (rowAt E M j)) (kept E M (offset k)) ≡ under k (till (apart E M (rowAt E M j)) (depth E M (rowAt E M j)))
   sheet-at k j h = elim (either (some (eqb (rowAt E M j)) (kept E M (offset k)))) [
     | inl t ↦ t ∙ sym (till-kept k (apart E M (rowAt E M j)) (depth E M (rowAt E M j)) (λ w.
@@ -191,8 +195,7 @@ module _ {E : Events} {M : Machine} (s : Sound E M) (z : Light E) where
   -- So many rows are kept.
   pub kept-count : (k : Offset) → length (kept E M k) ≡ count (λ q. under (far M k) (goes E M q)) (M .rows)
   kept-count k =
-      let pos : 0 < M .rows = omega (arith, s .start-in) in
-      ap length (kept-far E M k pos)
+      ap length (kept-far E M k (omega (arith, s .start-in)))
       ∙ distinct-count (kept E M (offset (far M k))) (M .rows) (folding s z (far M k) .distinct) (λ x m. kept-order s z (far M k) x m .0)
       ∙ count-cong (λ q. some (eqb q) (kept E M (offset (far M k)))) (λ q. under (far M k) (goes E M q)) (M .rows)
-      (λ q h. ap (some (eqb q)) (sym (kept-far E M k pos)) ∙ sheet k q h)
+      (sheet (offset (far M k)))

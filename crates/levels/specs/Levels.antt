@@ -80,7 +80,7 @@ module _ (E : Events) (M : Machine) where
   unfoldable pub ahead : ℕ → ℕ → Bool
   ahead q p = longer (lead E M p) (lead E M q) || (sameLen (lead E M p) (lead E M q) && ltb p q)
 
-  -- The least distance of q from one of the first m rows that passes the test; endless if there is none.
+  -- The least distance of q from one of the rows below m that passes the test; endless if there is none.
   unfoldable pub nearestOf : ℕ → (ℕ → Bool) → ℕ → Len
   nearestOf q f zero = endless
   nearestOf q f (suc m) = cond (f m) (shorter (nearestOf q f m) (distance E M q m)) (nearestOf q f m)
