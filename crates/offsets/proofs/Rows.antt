@@ -42,6 +42,17 @@ module _ (n : ℕ) (s : List ℕ) (q p : ℕ) {a : Bool} (ha : a ≡ aheadAt n s
     pub nearer-more : least ≤ d → least ≡ nearer n s q p least
     nearer-more h = omega (arith, is-min)
 
+-- The least of the distances so far.
+pub apart-none : (n : ℕ) (s : List ℕ) (q : ℕ) → 65535 ≡ apartAt n s q 0
+unfolding apartAt
+apart-none n s q = refl
+
+pub apart-next : (n : ℕ) (s : List ℕ) (q p : ℕ) {least r : ℕ} → least ≡ apartAt n s q p → r ≡ nearer n s q p least → r ≡ apartAt n s q (p + 1)
+unfolding apartAt
+apart-next n s q p h e =
+    let next : suc p ≡ p + 1 = omega arith in
+    e ∙ ap (nearer n s q p) h ∙ ap (apartAt n s q) next
+
 -- The first offset at which a row is not kept.
 pub gone-at-once : (least : ℕ) (d : Len) → least ≡ 0 → 0 ≡ lenCell (till (lenOf least) d)
 gone-at-once least d e = sym (ap (λ (x : ℕ). lenCell (till (lenOf x) d)) e ∙ ap (λ (x : Len). lenCell (till x d)) (cell-finite 0 (λ g. omega arith)))
@@ -73,7 +84,7 @@ module _ (n : ℕ) (s : List ℕ) (q : ℕ) {lead : ℕ} (h : lead ≡ leadAt s 
   unfolding goesAt
   goes-unreached e = rw (← h, eq-eqb lead 0 e)
 
-  pub goes-reached : ¬ (lead ≡ 0) → {r least d : ℕ} → r ≡ lenCell (till (lenOf least) (lenOf d)) → least ≡ apartAt n s q n → lenOf d ≡ depthAt n s q → r ≡ goesAt n s q
+  pub goes-reached : ¬ (lead ≡ 0) → (least d : ℕ) {r : ℕ} → r ≡ lenCell (till (lenOf least) (lenOf d)) → least ≡ apartAt n s q n → lenOf d ≡ depthAt n s q → r ≡ goesAt n s q
   unfolding goesAt
-  goes-reached e {r} {least} {d} hr ha hd = hr ∙ ap (λ (x : ℕ). lenCell (till (lenOf x) (lenOf d))) ha ∙ ap (λ (x : Len). lenCell (till (lenOf (apartAt n s q n)) x)) hd
+  goes-reached e least d {r} hr ha hd = hr ∙ ap (λ (x : ℕ). lenCell (till (lenOf x) (lenOf d))) ha ∙ ap (λ (x : Len). lenCell (till (lenOf (apartAt n s q n)) x)) hd
       ∙ sym (rw (← h, ne-eqb lead 0 e))

@@ -25,17 +25,25 @@ pub record Tallied (n : ℕ) (s : List ℕ) (many : ℕ) (l₀ l : List ℕ) (m 
   pub here : (k : ℕ) → k < many → getD l k 0 ≡ goneAt n s m k
   pub beyond : (k : ℕ) → many ≤ k → getD l k 0 ≡ getD l₀ k 0
 
+-- One more is counted, or nothing is.
+pub counted-yes : (l : List ℕ) (many at : ℕ) → at < many → set l at (getD l at 0 + 1) ≡ counted l many at
+counted-yes l many at h = sym (rw (lt-ltb at many h) refl)
+
+pub counted-no : (l : List ℕ) (many at : ℕ) → many ≤ at → l ≡ counted l many at
+counted-no l many at h = sym (rw (le-ltb at many h) refl)
+
 module _ (n : ℕ) (s : List ℕ) (many : ℕ) (l₀ : List ℕ) (room : many ≤ length l₀) where
   pub tallied-none : {l : List ℕ} → l ≡ cleared l₀ 0 many → Tallied n s many l₀ l 0
   unfolding count
   tallied-none e =
       let z : List ℕ = replicate many 0 in
+      let zeros : length z ≡ many = length-replicate many 0 in
       let w = e ∙ clear-front l₀ many room in
-      let fits : 0 + length z ≤ length l₀ = omega (arith, length-replicate many 0) in
+      let fits : 0 + length z ≤ length l₀ = omega arith in
       record {
         size = ap length w ∙ over-length l₀ 0 z fits;
-        here = λ k h. ap (λ (x : List ℕ). getD x k 0) w ∙ front k z fits (omega (arith, length-replicate many 0)) ∙ getD-replicate many k 0 0 h;
-        beyond = λ k h. ap (λ (x : List ℕ). getD x k 0) w ∙ over-behind l₀ 0 z fits k 0 (omega (arith, length-replicate many 0));
+        here = λ k h. ap (λ (x : List ℕ). getD x k 0) w ∙ front k z fits (omega arith) ∙ getD-replicate many k 0 0 h;
+        beyond = λ k h. ap (λ (x : List ℕ). getD x k 0) w ∙ over-behind l₀ 0 z fits k 0 (omega arith);
       }
     where
       front : (k : ℕ) (z : List ℕ) → 0 + length z ≤ length l₀ → k < length z → getD (over l₀ 0 z) k 0 ≡ getD z k 0
@@ -50,7 +58,7 @@ module _ (n : ℕ) (s : List ℕ) (many : ℕ) (l₀ : List ℕ) (room : many �
 
     pub tallied-next : {l′ : List ℕ} {at : ℕ} → at ≡ goesAt n s m → l′ ≡ counted l many at → Tallied n s many l₀ l′ (suc m)
     tallied-next {l′} {at} ha e = elim (decLt at many) [
-      | yes h ↦ (let w : l′ ≡ set l at (getD l at 0 + 1) = e ∙ rw (lt-ltb at many h) refl in record {
+      | yes h ↦ (let w : l′ ≡ set l at (getD l at 0 + 1) = e ∙ sym (counted-yes l many at h) in record {
           size = ap length w ∙ length-set l at (getD l at 0 + 1) ∙ t .size;
           here = λ k g. ap (λ (x : List ℕ). getD x k 0) w ∙ elim (ℕ-discrete k at) [
             | yes i ↦ ap (λ (x : ℕ). getD (set l at (getD l at 0 + 1)) x 0) i ∙ getD-set-same l at (getD l at 0 + 1) 0 (omega (arith, t .size))
@@ -59,7 +67,7 @@ module _ (n : ℕ) (s : List ℕ) (many : ℕ) (l₀ : List ℕ) (room : many �
           ];
           beyond = λ k g. ap (λ (x : List ℕ). getD x k 0) w ∙ getD-set-other l at k (getD l at 0 + 1) 0 (λ i. omega arith) ∙ t .beyond k g;
         })
-      | no h ↦ (let w : l′ ≡ l = e ∙ rw (le-ltb at many (omega arith)) refl in record {
+      | no h ↦ (let w : l′ ≡ l = e ∙ sym (counted-no l many at (omega arith)) in record {
           size = ap length w ∙ t .size;
           here = λ k g. ap (λ (x : List ℕ). getD x k 0) w ∙ other k g (ne-eqb (goesAt n s m) k (λ j. omega arith));
           beyond = λ k g. ap (λ (x : List ℕ). getD x k 0) w ∙ t .beyond k g;

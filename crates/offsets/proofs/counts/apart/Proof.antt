@@ -1,0 +1,40 @@
+use mathlib.Core.Path.{_≡_, sym, ap, _∙_}
+use Prim.Native.Nat.{ℕ, _-_, _≤_}
+use native.Mathlib.Omega.{arith}
+use Rattle.offsets.specs.Steps.{apartAt}
+use Rattle.offsets.proofs.Rows.{apart-none, apart-next}
+use borrow.Author.Needs.{needs}
+use Rattle.offsets.proofs.counts.apart.Statement.{statement}
+use Rattle.offsets.proofs.counts.apart.Tie as tie
+
+abbrev Inv-loop : tie.InvT-loop
+Inv-loop scratch rows q least₀ p₀ least p = (p ≤ rows) × (least ≡ apartAt rows scratch q p)
+
+abbrev μ-loop : tie.MeasureT-loop
+μ-loop scratch rows q least₀ p₀ least p = rows - p
+
+loop-holds : tie.Need-loop-holds Inv-loop μ-loop
+loop-holds c = let a = c .before .args in (omega arith, apart-none (a .rows) (a .scratch .now) (a .q))
+
+loop-again : tie.Need-loop-again Inv-loop μ-loop
+loop-again c = let a = c .before .before .before .before .args in let l = c .before .before .loop in (omega arith, apart-next (a .rows) (a .scratch .now) (a .q) (l .p) (l .inv .1) (c .nearer .ensures))
+
+returns : tie.Need-returns Inv-loop μ-loop
+returns c =
+    let a = c .before .before .before .args in
+    let l = c .before .loop in
+    let all : l .p ≡ a .rows = omega (arith, l .inv .0, c .loop-test .left) in
+    l .inv .1 ∙ ap (apartAt (a .rows) (a .scratch .now) (a .q)) all
+
+pub apart-spec : {M : Type 1} → statement M
+apart-spec =
+    tie.close
+    (tie.spec
+    Inv-loop
+    μ-loop
+    loop-holds
+    (λ c κs. search needs)
+    (λ c. omega arith)
+    (λ c. omega arith)
+    loop-again
+    returns)

@@ -1,0 +1,23 @@
+use Rattle.offsets.proofs.Rows.{goes-unreached, goes-reached}
+use borrow.Author.Needs.{needs}
+use Rattle.offsets.proofs.counts.goes_at.Statement.{statement}
+use Rattle.offsets.proofs.counts.goes_at.Tie as tie
+
+returns : tie.Need-returns
+returns c = let a = c .before .before .before .args in goes-unreached (a .rows) (a .scratch .now) (a .q) (c .before .lead .ensures) (c .if1 .taken)
+
+returns-2 : tie.Need-returns-2
+returns-2 c =
+    let a = c .before .before .before .before .before .before .args in
+    goes-reached (a .rows) (a .scratch .now) (a .q) (c .before .before .before .before .lead .ensures) (c .before .before .before .if1 .left) (c .before .before .apart .result) (c .before .depth .result) (c .first-gone .ensures) (c .before .before .apart .ensures) (c .before .depth .ensures)
+
+pub goes-at-spec : {M : Type 1} → statement M
+goes-at-spec =
+    tie.close
+    (tie.spec
+    (λ c κs. search needs)
+    returns
+    (λ c κs. search needs)
+    (λ c κs. search needs)
+    (λ c κs. search needs)
+    returns-2)
