@@ -59,19 +59,19 @@ module _ (n : ℕ) (s : List ℕ) (many : ℕ) (l₀ : List ℕ) (room : many �
     pub tallied-next : {l′ : List ℕ} {at : ℕ} → at ≡ goesAt n s m → l′ ≡ counted l many at → Tallied n s many l₀ l′ (suc m)
     tallied-next {l′} {at} ha e = elim (decLt at many) [
       | yes h ↦ (let w : l′ ≡ set l at (getD l at 0 + 1) = e ∙ sym (counted-yes l many at h) in record {
-          size = ap length w ∙ length-set l at (getD l at 0 + 1) ∙ t .size;
-          here = λ k g. ap (λ (x : List ℕ). getD x k 0) w ∙ elim (ℕ-discrete k at) [
-            | yes i ↦ ap (λ (x : ℕ). getD (set l at (getD l at 0 + 1)) x 0) i ∙ getD-set-same l at (getD l at 0 + 1) 0 (omega (arith, t .size))
-                ∙ ap (λ (x : ℕ). getD l x 0 + 1) (sym i) ∙ one k g (eq-eqb (goesAt n s m) k (sym ha ∙ sym i))
-            | no i ↦ getD-set-other l at k (getD l at 0 + 1) 0 i ∙ other k g (ne-eqb (goesAt n s m) k (λ j. i (sym j ∙ sym ha)))
-          ];
-          beyond = λ k g. ap (λ (x : List ℕ). getD x k 0) w ∙ getD-set-other l at k (getD l at 0 + 1) 0 (λ i. omega arith) ∙ t .beyond k g;
-        })
+        size = ap length w ∙ length-set l at (getD l at 0 + 1) ∙ t .size;
+        here = λ k g. ap (λ (x : List ℕ). getD x k 0) w ∙ elim (ℕ-discrete k at) [
+          | yes i ↦ ap (λ (x : ℕ). getD (set l at (getD l at 0 + 1)) x 0) i ∙ getD-set-same l at (getD l at 0 + 1) 0 (omega (arith, t .size))
+              ∙ ap (λ (x : ℕ). getD l x 0 + 1) (sym i) ∙ one k g (eq-eqb (goesAt n s m) k (sym ha ∙ sym i))
+          | no i ↦ getD-set-other l at k (getD l at 0 + 1) 0 i ∙ other k g (ne-eqb (goesAt n s m) k (λ j. i (sym j ∙ sym ha)))
+        ];
+        beyond = λ k g. ap (λ (x : List ℕ). getD x k 0) w ∙ getD-set-other l at k (getD l at 0 + 1) 0 (λ i. omega arith) ∙ t .beyond k g;
+      })
       | no h ↦ (let w : l′ ≡ l = e ∙ sym (counted-no l many at (omega arith)) in record {
-          size = ap length w ∙ t .size;
-          here = λ k g. ap (λ (x : List ℕ). getD x k 0) w ∙ other k g (ne-eqb (goesAt n s m) k (λ j. omega arith));
-          beyond = λ k g. ap (λ (x : List ℕ). getD x k 0) w ∙ t .beyond k g;
-        })
+        size = ap length w ∙ t .size;
+        here = λ k g. ap (λ (x : List ℕ). getD x k 0) w ∙ other k g (ne-eqb (goesAt n s m) k (λ j. omega arith));
+        beyond = λ k g. ap (λ (x : List ℕ). getD x k 0) w ∙ t .beyond k g;
+      })
     ]
       where
         one : (k : ℕ) → k < many → eqb (goesAt n s m) k ≡ true → getD l k 0 + 1 ≡ goneAt n s (suc m) k

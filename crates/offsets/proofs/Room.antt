@@ -1,0 +1,68 @@
+-- Rules 7 and 13, and what it means that no rule is broken.
+use mathlib.Core.Path.{_≡_, sym, _∙_}
+use mathlib.Core.List.{List}
+use Prim.Native.Nat.{ℕ, _≤_, _<_}
+use native.Mathlib.Omega.{arith}
+use borrow.Author.Tests.{lt-ltb, le-ltb, ltb-false}
+use lib.ListN.{getD}
+use Rattle.tables.specs.Table.{Table, Valid}
+use Rattle.rules.specs.Rules.{judged, winch, tableChecks}
+use Rattle.rules.specs.declared.Limits.{Limits}
+use Rattle.rules.specs.declared.Verdict.{Verdict}
+use Rattle.rules.specs.declared.Verdict.the-variants.{Fine, Refused}
+use Rattle.rules.proofs.Checks.{unbroken, passed}
+use Rattle.rules.proofs.First.{room-broken, room-kept, table-refused, table-then, fine-valid, more-fine, valid-then}
+use Rattle.scratch.specs.Scratch.{needed, scratchCells}
+use Rattle.scratch.proofs.Triangle.{needed-value}
+use Rattle.offsets.specs.Sheet.{entries, listRule, roomChecks, verdict}
+
+-- The checks stop at the first buffer that is short.
+module _ (rows list scratch : ℕ) where
+  pub short-scratch : scratch < needed rows → Refused 7 0 ≡ judged (roomChecks rows list scratch)
+  short-scratch h =
+      let g : scratch < scratchCells rows = omega (arith, needed-value rows) in
+      sym (rw (room-broken (scratchCells rows) scratch g))
+
+  module _ (s : needed rows ≤ scratch) where
+    scratch-fits : scratchCells rows ≤ scratch
+    scratch-fits = omega (arith, needed-value rows)
+
+    pub short-list : list < entries rows → Refused 13 0 ≡ judged (roomChecks rows list scratch)
+    short-list h = sym (rw (room-kept (scratchCells rows) scratch scratch-fits, lt-ltb list (entries rows) h))
+
+    pub all-fits : entries rows ≤ list → Fine ≡ judged (roomChecks rows list scratch)
+    all-fits h = sym (rw (room-kept (scratchCells rows) scratch scratch-fits, le-ltb list (entries rows) h))
+
+-- The verdict as the code makes it.
+module _ (T : Table) (list scratch : ℕ) {L : Limits} {v : Verdict} (l : L ≡ winch) (e : v ≡ judged (tableChecks L T)) where
+  pub verdict-refused : (number place : ℕ) → v ≡ Refused number place → Refused number place ≡ verdict T list scratch
+  unfolding verdict
+  verdict-refused = table-refused T l e (roomChecks (T .rows) list scratch)
+
+  pub verdict-room : v ≡ Fine → {u : Verdict} → u ≡ judged (roomChecks (T .rows) list scratch) → u ≡ verdict T list scratch
+  unfolding verdict
+  verdict-room h g = table-then T l e h (roomChecks (T .rows) list scratch) g
+
+-- No rule is broken: the table is valid, and there is room.
+pub record Roomy (T : Table) (list scratch : ℕ) : Type 0 where
+  pub valid : Valid T
+  pub list-fits : entries (T .rows) ≤ list
+  pub scratch-fits : needed (T .rows) ≤ scratch
+
+-- Mark bytes are bytes, as the code's types say.
+pub fine-roomy : (T : Table) (list scratch : ℕ) → ((i : ℕ) → getD (T .marks) i 0 < 256) → verdict T list scratch ≡ Fine → Roomy T list scratch
+unfolding verdict
+fine-roomy T list scratch bytes e =
+    let more = roomChecks (T .rows) list scratch in
+    let at = passed more (more-fine T more e) in
+    let enough : scratchCells (T .rows) ≤ scratch = ltb-false _ _ (unbroken _ _ _ (at 0)) in
+    record {
+      valid = fine-valid T more e bytes;
+      list-fits = ltb-false _ _ (unbroken _ _ _ (at 1));
+      scratch-fits = omega (arith, needed-value (T .rows));
+    }
+
+-- What is valid, and has room, is never refused.
+pub accepts : (T : Table) (list scratch : ℕ) → Roomy T list scratch → verdict T list scratch ≡ Fine
+unfolding verdict
+accepts T list scratch r = valid-then T (r .valid) (roomChecks (T .rows) list scratch) ∙ sym (all-fits (T .rows) list scratch (r .scratch-fits) (r .list-fits))
