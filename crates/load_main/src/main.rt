@@ -1,4 +1,6 @@
-// The largest tables: 1,024 rows of 32 events as a chain and a random table. What is printed is the new row count of each.
+// The largest tables: 1,024 rows of 32 events as a chain and a random table. What is printed is the new row count of each, and of its
+// sheet the number of entries, the first one, those of offsets 1,022 and 1,023, and the last.
+use offsets::Listed;
 use printing::put_line;
 use reduction::Answer;
 use rules::Offset;
@@ -83,13 +85,47 @@ fn reduce(name: &[u8], offset: Offset, cells: &[u16], marks: &[u8]) {
     );
 }
 
+fn put_sheet(out: &mut [u8], name: &[u8], answer: Listed, list: &[u16]) -> usize {
+    match answer {
+        Listed::Entries(n) => put_line(
+            out,
+            0,
+            name,
+            &[
+                n,
+                entry(list, 0),
+                entry(list, 1022),
+                entry(list, 1023),
+                entry(list, 2048),
+            ],
+        ),
+        Listed::Refused(number, place) => put_refusal(out, 0, number, place),
+    }
+}
+
+fn entry(list: &[u16], k: usize) -> usize {
+    rules::wide(scratch::cell(list, k))
+}
+
+// Lists the fewest rows of a table of 1,024 rows and 32 events at every offset, and prints some entries.
+fn sheet(name: &[u8], cells: &[u16], marks: &[u8]) {
+    let mut list = [0u16; 2049];
+    let mut scratch = [0u16; 527872];
+    let mut out = io::large_buffer();
+    let answer = offsets::write_sheet(1024, 32, 0, cells, marks, &mut list, &mut scratch);
+    let n = put_sheet(&mut out, name, answer, &list);
+    printing::print(&out, n);
+}
+
 fn main() {
     let mut cells = [0u16; 32768];
     let mut marks = [0u8; 128];
     marks[127] = 128;
     fill_chain(&mut cells);
     reduce(b"chain", Offset::Number(1023), &cells, &marks);
+    sheet(b"chain sheet", &cells, &marks);
     fill_random(&mut cells, 1);
     fill_marks(&mut marks, 2);
     reduce(b"random", Offset::None, &cells, &marks);
+    sheet(b"random sheet", &cells, &marks);
 }
