@@ -2,13 +2,14 @@
 use mathlib.Core.Path.{_≡_, refl, sym, ap, _∙_}
 use mathlib.Core.Bool.{Bool, true, false, cond}
 use mathlib.Core.List.{List}
-use Prim.Native.Nat.{ℕ, zero, suc, _+_, _≤_, _<_, min}
+use Prim.Native.Nat.{ℕ, zero, suc, _+_, _-_, _≤_, _<_, min}
 use native.Mathlib.Omega.{arith}
 use lib.Dec.{ltb}
 use borrow.Author.Tests.{lt-ltb, le-ltb, eq-eqb, ne-eqb}
 use Rattle.automata.specs.Runs.{Len, len, endless}
+use Rattle.tables.specs.Lengths.{oneLess}
 use Rattle.scratch.specs.Scratch.{pairAt, leadAt, lenCell}
-use Rattle.lengths.specs.Lengths.{lenOf, depthAt}
+use Rattle.lengths.specs.Lengths.{lenOf}
 use Rattle.lengths.proofs.Cells.{cell-endless, cell-finite}
 use Rattle.levels.specs.Levels.{till}
 use Rattle.offsets.specs.Steps.{aheadAt, nearer, apartAt, goesAt}
@@ -60,23 +61,23 @@ gone-at-once least d e = sym (ap (λ (x : ℕ). lenCell (till (lenOf x) d)) e �
 pub never-apart : (least : ℕ) (d : Len) → least ≡ 65535 → 65535 ≡ lenCell (till (lenOf least) d)
 never-apart least d e = sym (ap (λ (x : Len). lenCell (till x d)) (cell-endless least e))
 
-module _ (least depth : ℕ) (some : ¬ (least ≡ 0)) (finite : ¬ (least ≡ 65535)) where
-  apart-finite : (d : Len) → till (lenOf least) d ≡ till (len least) d
-  apart-finite d = ap (λ (x : Len). till x d) (cell-finite least finite)
+module _ (least lead : ℕ) (some : ¬ (least ≡ 0)) (finite : ¬ (least ≡ 65535)) where
+  by-lead : {x : Len} → lenOf lead ≡ x → till (lenOf least) (oneLess (lenOf lead)) ≡ till (len least) (oneLess x)
+  by-lead {x} e = ap (λ (y : Len). till y (oneLess (lenOf lead))) (cell-finite least finite) ∙ ap (λ (y : Len). till (len least) (oneLess y)) e
 
-  pub gone-never : depth ≡ 65535 → 65535 ≡ lenCell (till (lenOf least) (lenOf depth))
-  gone-never e = sym (ap lenCell (apart-finite (lenOf depth) ∙ ap (till (len least)) (cell-endless depth e)) ∙ pick least some)
+  pub gone-never : lead ≡ 65535 → 65535 ≡ lenCell (till (lenOf least) (oneLess (lenOf lead)))
+  gone-never e = sym (ap lenCell (by-lead (cell-endless lead e)) ∙ pick least some)
     where
       pick : (x : ℕ) → ¬ (x ≡ 0) → lenCell (till (len x) endless) ≡ 65535
       pick zero h = absurd (h refl)
       pick (suc x) h = refl
 
-  pub gone-then : ¬ (depth ≡ 65535) → least + depth ≡ lenCell (till (lenOf least) (lenOf depth))
-  gone-then h = sym (ap lenCell (apart-finite (lenOf depth) ∙ ap (till (len least)) (cell-finite depth h)) ∙ pick least some)
+  pub gone-then : ¬ (lead ≡ 65535) → 0 < lead → least + lead - 1 ≡ lenCell (till (lenOf least) (oneLess (lenOf lead)))
+  gone-then h pos = sym (ap lenCell (by-lead (cell-finite lead h)) ∙ pick least some)
     where
-      pick : (x : ℕ) → ¬ (x ≡ 0) → lenCell (till (len x) (len depth)) ≡ x + depth
+      pick : (x : ℕ) → ¬ (x ≡ 0) → lenCell (till (len x) (len (lead - 1))) ≡ x + lead - 1
       pick zero h = absurd (h refl)
-      pick (suc x) h = refl
+      pick (suc x) h = omega arith
 
 -- That of a row in scratch.
 module _ (n : ℕ) (s : List ℕ) (q : ℕ) {lead : ℕ} (h : lead ≡ leadAt s n q) where
@@ -84,7 +85,6 @@ module _ (n : ℕ) (s : List ℕ) (q : ℕ) {lead : ℕ} (h : lead ≡ leadAt s 
   unfolding goesAt
   goes-unreached e = rw (← h, eq-eqb lead 0 e)
 
-  pub goes-reached : ¬ (lead ≡ 0) → (least d : ℕ) {r : ℕ} → r ≡ lenCell (till (lenOf least) (lenOf d)) → least ≡ apartAt n s q n → lenOf d ≡ depthAt n s q → r ≡ goesAt n s q
+  pub goes-reached : ¬ (lead ≡ 0) → (least : ℕ) {r : ℕ} → r ≡ lenCell (till (lenOf least) (oneLess (lenOf lead))) → least ≡ apartAt n s q n → r ≡ goesAt n s q
   unfolding goesAt
-  goes-reached e least d {r} hr ha hd = hr ∙ ap (λ (x : ℕ). lenCell (till (lenOf x) (lenOf d))) ha ∙ ap (λ (x : Len). lenCell (till (lenOf (apartAt n s q n)) x)) hd
-      ∙ sym (rw (← h, ne-eqb lead 0 e))
+  goes-reached e least {r} hr ha = hr ∙ ap (λ (x : ℕ). lenCell (till (lenOf x) (oneLess (lenOf lead)))) ha ∙ sym (rw (← h, ne-eqb lead 0 e))

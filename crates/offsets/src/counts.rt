@@ -2,6 +2,7 @@
 ghost use mathlib.Core.Path.{_≡_};
 ghost use Prim.Native.Nat.{_+_, _*_, _≤_, _<_};
 ghost use lib.ListN.{length, getD};
+ghost use Rattle.tables.specs.Lengths.{oneLess};
 ghost use Rattle.tables.specs.Lists.{tabulate, over};
 ghost use Rattle.scratch.specs.Scratch.{lenCell};
 ghost use Rattle.lengths.specs.Lengths.{lenOf};
@@ -53,9 +54,10 @@ fn apart(scratch: &[u16], rows: u16, q: u16) -> u16
     least
 }
 
-// The first offset at which a row is not kept, by its least distance from those before it and its depth.
-fn first_gone(least: u16, depth: u16) -> usize
-    ensures { λ r. ⌜ r ≡ lenCell (till (lenOf least) (lenOf depth)) ⌝ }
+// The first offset at which a reached row is not kept, by its least distance from those before it and its lead.
+fn first_gone(least: u16, lead: u16) -> usize
+    requires { ⌜ 0 < lead ⌝ }
+    ensures { λ r. ⌜ r ≡ lenCell (till (lenOf least) (oneLess (lenOf lead))) ⌝ }
 {
     if least == 0 {
         return 0;
@@ -63,21 +65,21 @@ fn first_gone(least: u16, depth: u16) -> usize
     if least == ENDLESS {
         return rules::wide(ENDLESS);
     }
-    if depth == ENDLESS {
+    if lead == ENDLESS {
         return rules::wide(ENDLESS);
     }
-    rules::wide(least) + rules::wide(depth)
+    rules::wide(least) + rules::wide(lead) - 1
 }
 
-// The same of a row in scratch; an unreached one is kept at no offset.
+// The same of any row; an unreached one is kept at no offset.
 fn goes_at(scratch: &[u16], rows: u16, q: u16) -> usize
     ensures { λ r. ⌜ r ≡ goesAt rows (now (scratch .entry)) q ⌝ }
 {
-    if lengths::lead(scratch, rows, q) == 0 {
+    let lead = lengths::lead(scratch, rows, q);
+    if lead == 0 {
         return 0;
     }
-    let least = apart(scratch, rows, q);
-    first_gone(least, lengths::depth(scratch, rows, q))
+    first_gone(apart(scratch, rows, q), lead)
 }
 
 // Counts one more at a place, if that is one of the first `count`.

@@ -1,3 +1,4 @@
+use native.Mathlib.Omega.{arith}
 use Rattle.offsets.proofs.Rows.{goes-unreached, goes-reached}
 use borrow.Author.Needs.{needs}
 use Rattle.offsets.proofs.counts.goes_at.Statement.{statement}
@@ -8,8 +9,8 @@ returns c = let a = c .before .before .before .args in goes-unreached (a .rows) 
 
 returns-2 : tie.Need-returns-2
 returns-2 c =
-    let a = c .before .before .before .before .before .before .args in
-    goes-reached (a .rows) (a .scratch .now) (a .q) (c .before .before .before .before .lead .ensures) (c .before .before .before .if1 .left) (c .before .before .apart .result) (c .before .depth .result) (c .first-gone .ensures) (c .before .before .apart .ensures) (c .before .depth .ensures)
+    let a = c .before .before .before .before .before .args in
+    goes-reached (a .rows) (a .scratch .now) (a .q) (c .before .before .before .lead .ensures) (c .before .before .if1 .left) (c .before .apart .result) (c .first-gone .ensures) (c .before .apart .ensures)
 
 pub goes-at-spec : {M : Type 1} → statement M
 goes-at-spec =
@@ -18,6 +19,5 @@ goes-at-spec =
     (λ c κs. search needs)
     returns
     (λ c κs. search needs)
-    (λ c κs. search needs)
-    (λ c κs. search needs)
+    (λ c κs. omega (arith, c .before .if1 .left))
     returns-2)
