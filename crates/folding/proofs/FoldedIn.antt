@@ -5,8 +5,7 @@ use mathlib.Core.List.{List, []}
 use Prim.Native.Nat.{ℕ, _+_, _-_, _≤_, _<_}
 use native.Mathlib.Omega.{arith}
 use borrow.Author.Tests.{not-true, not-false, le-ltb}
-use lib.ListN.{length, getD, drop, replicate, length-replicate}
-use lib.Seq.{getD-take, getD-drop}
+use lib.ListN.{length, getD, replicate, length-replicate}
 use Rattle.automata.specs.Runs.{Events, Machine}
 use Rattle.tables.specs.Lists.{tabulate, over}
 use Rattle.tables.specs.Table.{Table, Offset, machine, eventsOf}
@@ -14,9 +13,7 @@ use Rattle.tables.specs.Lengths.{lead}
 use Rattle.tables.specs.Reduction.{order, kept, fold, similar}
 use Rattle.tables.proofs.Lists.{tabulate-length, tabulate-at}
 use Rattle.tables.proofs.Over.{over-length, over-inside, over-before, over-behind, over-again, over-swap}
-use Rattle.scratch.specs.Scratch.{triangle, leadsAt, queueAt, foldsAt, numbersAt, needed, lenCell, weightBy, workable, cleared}
-use Rattle.scratch.proofs.Pairs.{pair-lift}
-use Rattle.scratch.proofs.Works.{workable-fine}
+use Rattle.scratch.specs.Scratch.{leadsAt, queueAt, foldsAt, numbersAt, lenCell, weightBy, workable, cleared}
 use Rattle.scratch.proofs.Soundness.{workable-shape}
 use Rattle.lengths.specs.Lengths.{lengthsIn, Holds}
 use Rattle.lengths.proofs.Found.{lengths-size, lengths-not, lengths-beyond, lengths-hold}

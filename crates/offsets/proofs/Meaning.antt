@@ -8,18 +8,18 @@ use lib.Dec.{eqb, ltb}
 use borrow.Author.Tests.{lt-ltb, le-ltb, ne-eqb}
 use lib.ListN.{length}
 use Rattle.automata.specs.Runs.{Events, Machine, Sound, Light, Len, len, endless}
-use Rattle.automata.proofs.Count.{count, count-cong}
+use Rattle.automata.proofs.Count.{count-cong}
 use Rattle.tables.specs.Lengths.{distance, lead, isZero, reached, depth}
 use Rattle.tables.specs.Table.{offset}
 use Rattle.tables.specs.Reduction.{sameLen, kept}
 use Rattle.tables.proofs.Lengths.{Below, distance-below}
-use Rattle.scratch.specs.Scratch.{pairAt, leadAt, lenCell}
+use Rattle.scratch.specs.Scratch.{lenCell}
 use Rattle.lengths.specs.Lengths.{Holds, lenOf, depthAt}
 use Rattle.lengths.proofs.Cells.{len-of-cell, lead-below}
 use Rattle.lengths.proofs.Found.{depth-held}
 use Rattle.levels.specs.Levels.{shorter, longer, till, under, apart, goes, ahead, nearestOf}
 use Rattle.levels.proofs.Sheet.{apart-is, kept-count}
-use Rattle.offsets.specs.Steps.{aheadAt, nearer, apartAt, goesAt, keptAt}
+use Rattle.offsets.specs.Steps.{aheadAt, apartAt, goesAt, keptAt}
 
 -- ---- lengths in cells
 

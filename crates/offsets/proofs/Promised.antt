@@ -5,7 +5,7 @@ use Prim.Native.Nat.{ℕ, suc, _+_, _-_, _*_, _≤_, _<_}
 use native.Mathlib.Omega.{arith}
 use lib.ListN.{length, getD, replicate}
 use Rattle.tables.specs.Lists.{tabulate, over}
-use Rattle.tables.specs.Table.{Table, offset, none, Valid, machine, eventsOf, unit, Agrees}
+use Rattle.tables.specs.Table.{Table, offset, none, Valid, unit, Agrees}
 use Rattle.tables.specs.Reduction.{reduced}
 use Rattle.tables.proofs.Lists.{tabulate-same}
 use Rattle.tables.proofs.Over.{front-at}
@@ -14,7 +14,7 @@ use Rattle.tables.proofs.Theorems.{unit-light, rows-kept, never-grows, far-offs
 use Rattle.rules.specs.Rules.{leftBy}
 use Rattle.rules.specs.declared.Verdict.{Verdict}
 use Rattle.rules.specs.declared.Verdict.the-variants.{Fine, Refused}
-use Rattle.scratch.specs.Scratch.{needed, scratchCells, weightBy, workable, cleared}
+use Rattle.scratch.specs.Scratch.{needed, scratchCells, weightBy, cleared}
 use Rattle.scratch.proofs.Cells.{clear-work}
 use Rattle.scratch.proofs.Weights.{mask-light, all-count}
 use Rattle.scratch.proofs.Works.{valid-workable}

@@ -1,6 +1,5 @@
 -- Rules 7 and 13, and what it means that no rule is broken.
 use mathlib.Core.Path.{_≡_, sym, _∙_}
-use mathlib.Core.List.{List}
 use Prim.Native.Nat.{ℕ, _≤_, _<_}
 use native.Mathlib.Omega.{arith}
 use borrow.Author.Tests.{lt-ltb, le-ltb, ltb-false}
@@ -14,7 +13,7 @@ use Rattle.rules.proofs.Checks.{unbroken, passed}
 use Rattle.rules.proofs.First.{room-broken, room-kept, table-refused, table-then, fine-valid, more-fine, valid-then}
 use Rattle.scratch.specs.Scratch.{needed, scratchCells}
 use Rattle.scratch.proofs.Triangle.{needed-value}
-use Rattle.offsets.specs.Sheet.{entries, listRule, roomChecks, verdict}
+use Rattle.offsets.specs.Sheet.{entries, roomChecks, verdict}
 
 -- The checks stop at the first buffer that is short.
 module _ (rows list scratch : ℕ) where

@@ -1,15 +1,15 @@
 -- Counting the rows that go at each offset, and what is left of them.
 use mathlib.Core.Path.{_≡_, refl, sym, ap, subst, _∙_}
-use mathlib.Core.Bool.{Bool, true, false, cond}
+use mathlib.Core.Bool.{true, false}
 use mathlib.Core.List.{List}
 use Prim.Native.Nat.{ℕ, zero, suc, _+_, _-_, _≤_, _<_}
 use native.Mathlib.Omega.{arith}
 use native.Mathlib.Decide.{ℕ-discrete, decLt}
-use lib.Dec.{eqb, leb, ltb}
+use lib.Dec.{eqb, leb}
 use borrow.Author.Tests.{lt-ltb, le-ltb, le-leb, eq-eqb, ne-eqb}
 use lib.ListN.{length, getD, set, length-set, replicate, length-replicate, getD-replicate}
 use lib.Seq.{getD-set-same, getD-set-other}
-use Rattle.automata.proofs.Count.{bit, count, count-next, count-bound, count-split, count-cong, count-all}
+use Rattle.automata.proofs.Count.{bit, count, count-next, count-bound, count-split, count-all}
 use Rattle.tables.specs.Lists.{tabulate, over}
 use Rattle.tables.proofs.Lists.{tabulate-length, tabulate-same}
 use Rattle.tables.proofs.Over.{over-length, over-inside, over-behind, over-again, front-tabulate, front-at}

@@ -1,5 +1,4 @@
 -- How the sheet is found in a scratch s that holds the distances and the leads of n rows. What that means is in proofs/Meaning.antt.
-use mathlib.Core.Path.{_≡_}
 use mathlib.Core.Bool.{Bool, _&&_, _||_, cond}
 use mathlib.Core.List.{List}
 use Prim.Native.Nat.{ℕ, zero, suc, _+_, _-_, _≤_, _<_, min}

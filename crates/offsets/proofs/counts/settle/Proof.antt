@@ -1,8 +1,6 @@
-use mathlib.Core.Path.{_≡_}
-use Prim.Native.Nat.{ℕ, _-_, _≤_}
+use Prim.Native.Nat.{_-_, _≤_}
 use native.Mathlib.Omega.{arith}
 use Rattle.offsets.proofs.Tally.{Settled, settled-none, settled-enough, settled-next, settled-all}
-use borrow.Author.Needs.{needs}
 use Rattle.offsets.proofs.counts.settle.Statement.{statement}
 use Rattle.offsets.proofs.counts.settle.Tie as tie
 
