@@ -1,0 +1,15 @@
+#!/usr/bin/env bash
+# Builds a program of this repository (proving what it is made of, a few minutes the first time) and runs it on a file:
+#   bash run.sh reduce INPUT    two bytes of offset, then an image: the shortest table
+#   bash run.sh sheet IMAGE     an image: the fewest rows at every offset
+set -euo pipefail
+usage="usage: bash run.sh reduce|sheet FILE"
+program="${1:?$usage}"
+input="$(realpath "${2:?$usage}")"
+cd "$(dirname "${BASH_SOURCE[0]}")"
+mkdir -p target
+if ! rt check "$program" > "target/$program.log" 2>&1; then
+    tail -n 20 "target/$program.log" >&2
+    exit 1
+fi
+exec "target/bin/$program" < "$input"
