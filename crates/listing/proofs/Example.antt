@@ -6,7 +6,7 @@ use Rattle.records.specs.declared.Depth.{Depth}
 use Rattle.records.specs.declared.Depth.the-variants.{Number, Endless}
 use Rattle.records.specs.declared.Fate.{Fate}
 use Rattle.records.specs.declared.Fate.the-variants.{Kept, Unreached}
-use Rattle.text.specs.Text.{text, decimalIn, decimal, joined}
+use Rattle.text.specs.Text.{text, decimalIn, decimal, joined, pairLine}
 use Rattle.listing.specs.Listing.{targetWord, markWords, rowLine, depthWords, fateWords, recordLine, listing}
 
 abbrev row : Fate → Depth → Record
@@ -14,5 +14,5 @@ row fate depth = record { depth = depth; fate = fate }
 
 -- The listing of F, with a row that is unreached.
 pub F : listing 1 1 (0 ∷ []) (0 ∷ []) 2 (row (Kept 0) Endless ∷ row Unreached (Number 0) ∷ []) ≡ text "table 1 1\n0 0 wait\nfolds 2\n0 kept 0 depth endless\n1 unreached\n"
-unfolding decimalIn decimal joined targetWord markWords rowLine depthWords fateWords recordLine listing
+unfolding decimalIn decimal joined pairLine targetWord markWords rowLine depthWords fateWords recordLine listing
 F = refl

@@ -13,7 +13,7 @@ use Rattle.records.specs.declared.Fate.{Fate}
 use Rattle.records.specs.declared.Fate.the-variants.{Kept, Folded, Unreached}
 use Rattle.text.specs.Text.{text}
 use Rattle.listing.specs.Listing.{targetWord, markWords, rowLine, depthWords, fateWords, recordLine, blank, listing}
-use Rattle.text.proofs.Short.{Small, number-short, joined-short}
+use Rattle.text.proofs.Short.{Small, number-short, joined-short, pair-short}
 
 mark-short : (mark : ℕ) → length (markWords mark) ≤ 7
 unfolding markWords
@@ -66,4 +66,4 @@ unfolding listing
 listing-short rows events cells marks given records hr he hg small each =
     let lines = joined-short rows (12 + events * 6) (rowLine events cells marks) (λ q l. row-short events cells marks q (omega arith) small) in
     let told = joined-short given 33 (λ q. recordLine q (getD records q blank)) (λ q l. record-short q (getD records q blank) (omega arith) (each q l .0) (each q l .1)) in
-    simp length-append (omega (arith, number-short rows hr, number-short events he, number-short given hg, lines, told))
+    simp length-append (omega (arith, pair-short rows events hr he, number-short given hg, lines, told))

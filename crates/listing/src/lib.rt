@@ -2,24 +2,22 @@
 ghost use mathlib.Core.Path.{_≡_};
 ghost use mathlib.Core.List.{_++_};
 ghost use lib.ListN.{getD};
-ghost use Rattle.text.specs.Text.{text, decimal, joined, Puts};
+ghost use Rattle.text.specs.Text.{text, decimal, joined, pairLine, Puts};
 ghost use Rattle.listing.specs.Listing.{targetWord, markWords, rowLine, depthWords, fateWords, recordLine, blank, listing};
 use records::Depth;
 use records::Fate;
 use records::Record;
 use text::put_byte;
 use text::put_cell;
+use text::put_pair;
 use text::put_text;
 
 // Writes the first line.
 fn put_head(out: &mut [u8], at: usize, rows: u16, events: u16) -> usize
-    ensures { λ r. ⌜ Puts (now (out .entry)) at (text "table " ++ decimal rows ++ text " " ++ decimal events ++ text "\n") (now (out .exit)) r ⌝ }
+    ensures { λ r. ⌜ Puts (now (out .entry)) at (text "table " ++ pairLine rows events) (now (out .exit)) r ⌝ }
 {
     let worded = put_text(out, at, b"table ");
-    let numbered = put_cell(out, worded, rows);
-    let spaced = put_byte(out, numbered, b' ');
-    let counted = put_cell(out, spaced, events);
-    put_byte(out, counted, b'\n')
+    put_pair(out, worded, rows as usize, events as usize)
 }
 
 // Writes the targets of a row, each after a space.

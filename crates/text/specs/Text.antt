@@ -27,9 +27,13 @@ unfoldable pub joined : ℕ → (ℕ → List ℕ) → List ℕ
 joined zero f = []
 joined (suc n) f = joined n f ++ f n
 
+-- Two numbers and the line's end.
+unfoldable pub pairLine : ℕ → ℕ → List ℕ
+pairLine first second = decimal first ++ text " " ++ decimal second ++ text "\n"
+
 -- "A refusal prints only `refused`, its number and its place."
 unfoldable pub refusalLine : ℕ → ℕ → List ℕ
-refusalLine number place = text "refused " ++ decimal number ++ text " " ++ decimal place ++ text "\n"
+refusalLine number place = text "refused " ++ pairLine number place
 
 -- A buffer with l in front, as far as there is room, and beyond l what was there.
 unfoldable pub filled : List ℕ → List ℕ → List ℕ
