@@ -11,7 +11,8 @@ use Rattle.marks.specs.Marks.{spareSet}
 use Rattle.image_reader.specs.Read.{imageRead}
 use Rattle.text.specs.Text.{text, decimalIn, decimal, joined, pairLine}
 use Rattle.listing.specs.Listing.{targetWord, markWords, rowLine, depthWords, fateWords, recordLine, listing}
-use Rattle.desk.specs.Printed.{reductionText, imageText, printed}
+use Rattle.image_text.specs.ImageText.{imageText}
+use Rattle.desk.specs.Printed.{reductionText, printed}
 
 -- Offset 0, and the image of A.
 abbrev pub inputA0 : List ℕ

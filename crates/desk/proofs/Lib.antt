@@ -1,6 +1,4 @@
 pub mod Example
 pub mod Sized
-pub mod Taken
-pub mod Long
-pub mod Few
+pub mod Input
 pub mod Short

@@ -1,92 +1,27 @@
 -- What `reduce` prints is shorter than its buffer, whatever it reads.
-use mathlib.Core.Path.{_≡_, refl}
-use mathlib.Core.Bool.{Bool, true, false, not, cond}
+use mathlib.Core.Path.{_≡_}
+use mathlib.Core.Bool.{Bool, true, false, cond}
 use mathlib.Core.List.{List, map}
-use Prim.Native.Nat.{ℕ, _+_, _*_, _/_, _%_, _≤_, _<_, min}
+use Prim.Native.Nat.{ℕ, _+_, _*_, _≤_, _<_, min}
 use native.Mathlib.Nat.{mul-le-mul}
 use native.Mathlib.Omega.{arith}
-use borrow.Author.Tests.{ltb-true, ltb-false, leb-false}
-use lib.Dec.{eqb, leb, ltb}
+use lib.Dec.{ltb}
 use lib.ListN.{length, getD, drop, List·getD-map}
 use Rattle.automata.specs.Runs.{Len, len, endless}
-use Rattle.tables.specs.Lists.{position}
 use Rattle.tables.specs.Table.{Table, Offset, unit}
 use Rattle.tables.specs.Reduction as spec
 use Rattle.tables.specs.Reduction.{keptAs, foldedInto, unreached, reduced, records}
-use Rattle.tables.proofs.Lists.{tabulate-length}
 use Rattle.tables.proofs.Lengths.{Below}
 use Rattle.tables.proofs.Bounds.{FateWithin, events-same, rows-most, cells-most, record-most}
-use Rattle.rules.specs.Rules.{rule, andThen, judged, winch, outside}
-use Rattle.rules.specs.declared.Verdict.{Verdict}
-use Rattle.rules.specs.declared.Verdict.the-variants.{Fine, Refused}
-use Rattle.rules.proofs.Checks.{unbroken, passed, all-inside}
-use Rattle.marks.specs.Marks.{spareSet}
-use Rattle.images.specs.Image.{numberAt, targetsAt, startAt, cellsAt, tableIn}
-use Rattle.image_reader.specs.Read.{cutRule, targetsRule, atMost, readChecks, imageRead, answered}
-use Rattle.image_reader.specs.declared.Read.the-variants as read
 use Rattle.records.specs.declared.Record.{Record}
 use Rattle.reducer.specs.Recorded.{depthOf, fateOf, recordOf}
 use Rattle.text.specs.Text.{refusalLine}
-use Rattle.text.proofs.Short.{Small, refusal-short}
+use Rattle.text.proofs.Short.{refusal-short}
+use Rattle.image_text.specs.ImageText.{imageText}
+use Rattle.image_text.proofs.Short.{Inside, image-short}
 use Rattle.listing.proofs.Short.{SmallDepth, SmallFate, listing-short}
 use Rattle.listing.specs.Listing.{blank}
-use Rattle.desk.specs.Printed.{offsetIn, reductionText, textOf, imageText, printed}
-use Rattle.desk.proofs.Few.{whole-rows, few-events, few-targets}
-
--- ---- a refusal
-
--- Its number and place are small.
-record Little (v : Verdict) : Type 0 where
-  small : (number place : ℕ) → v ≡ Refused number place → Small number × Small place
-
-little-then : {u v : Verdict} → Little u → (u ≡ Fine → Little v) → Little (andThen u v)
-little-then {u} {v} h g = pick u h g
-  where
-    pick : (u : Verdict) → Little u → (u ≡ Fine → Little v) → Little (andThen u v)
-    pick Fine h g = g refl
-    pick (Refused number place) h g = h
-
-little-rule : (number : ℕ) (t : Bool) (place : ℕ) → Small number → (t ≡ true → Small place) → Little (rule number t place)
-little-rule number true place h g = record { small = λ n p e. let a : number ≡ n = cc in let b : place ≡ p = cc in (omega arith, omega (arith, g refl)) }
-little-rule number false place h g = record { small = λ n p e. let z : _≡_ {A = ℕ} 0 1 = cc in absurd (omega arith) }
-
--- A rule that names no place.
-little : (number : ℕ) (t : Bool) → Small number → Little (rule number t 0)
-little number t h = little-rule number t 0 h (λ e. omega arith)
-
-module _ (b : List ℕ) (rows count one start : ℕ) where
-  abbrev checks : List Verdict
-  checks = readChecks winch (atMost 128) b rows count one start
-
-  cut : (end : ℕ) → end ≤ 10000 → Little (cutRule b end)
-  cut end h = little-rule 8 (ltb (length b) end) (length b) (omega arith) (λ t. omega (arith, ltb-true (length b) end t))
-
-  target : count ≤ 4096 → Little (targetsRule b rows (targetsAt rows + 2) count)
-  target most =
-      let p = position (leb rows) (cellsAt b (targetsAt rows + 2) count) in
-      little-rule 5 (ltb p count) p (omega arith) (λ t. omega (arith, ltb-true p count t))
-
-  -- The place of 8 lies before an end that is bounded by then; that of 5 is one of the targets.
-  checks-little : Little (judged checks)
-  checks-little =
-      little-then (cut 2 (omega arith)) (λ e₀.
-      little-then (little 1 (outside 1024 rows) (omega arith)) (λ e₁.
-      little-then (little 12 (ltb 128 rows) (omega arith)) (λ e₂.
-      let few : rows ≤ 128 = ltb-false 128 rows (unbroken 12 (ltb 128 rows) 0 e₂) in
-      little-then (cut (targetsAt rows) (omega arith)) (λ e₃.
-      little-then (little 6 (spareSet rows (getD b (2 + rows / 8) 0)) (omega arith)) (λ e₄.
-      little-then (cut (targetsAt rows + 2) (omega arith)) (λ e₅.
-      little-then (little 9 (not (eqb (count % rows) 0)) (omega arith)) (λ e₆.
-      little-then (little 2 (outside 32 (count / rows)) (omega arith)) (λ e₇.
-      let most : count ≤ 4096 = few-targets rows count e₆ e₇ few in
-      little-then (cut (startAt rows count) (omega arith)) (λ e₈.
-      little-then (target most) (λ e₉.
-      little-then (cut (startAt rows count + 2) (omega arith)) (λ e₁₀.
-      little-then (little 9 (not (eqb one 1)) (omega arith)) (λ e₁₁.
-      little-then (cut (startAt rows count + 2 + 2) (omega arith)) (λ e₁₂.
-      little-then (little 4 (leb rows start) (omega arith)) (λ e₁₃.
-      little-then (little 10 (ltb (startAt rows count + 2 + 2) (length b)) (omega arith)) (λ e₁₄.
-      record { small = λ n p e. let z : _≡_ {A = ℕ} 0 1 = cc in absurd (omega arith) })))))))))))))))
+use Rattle.desk.specs.Printed.{offsetIn, reductionText, printed}
 
 -- ---- a listing
 
@@ -99,8 +34,8 @@ small-fate n few (keptAs i) h = omega arith
 small-fate n few (foldedInto p) h = omega arith
 small-fate n few unreached h = tt
 
--- The listing of a table of at most 128 rows and 32 events.
-module _ (k : Offset) (T : Table) (few : T .rows ≤ 128) (start : T .start < T .rows) (cells : (i : ℕ) → i < length (T .cells) → getD (T .cells) i 0 < T .rows) where
+-- The listing of a table within the limits.
+module _ (k : Offset) (T : Table) (inside : Inside T) where
   abbrev told : List Record
   told = map recordOf (records unit k T)
 
@@ -108,50 +43,31 @@ module _ (k : Offset) (T : Table) (few : T .rows ≤ 128) (start : T .start < T 
   record-small q h =
       let none : spec.Record = record { depth = len 0; fate = unreached } in
       let r = getD (records unit k T) q none in
-      let most = record-most unit k T start cells q none h in
-      rw (List·getD-map recordOf (records unit k T) q none) (small-fate (T .rows) few (r .fate) (most .0), small-depth (T .rows) few (r .depth) (most .1))
+      let most = record-most unit k T (inside .start-in) (inside .cells-in) q none h in
+      rw (List·getD-map recordOf (records unit k T) q none) (small-fate (T .rows) (inside .few-rows) (r .fate) (most .0), small-depth (T .rows) (inside .few-rows) (r .depth) (most .1))
 
-  reduction-short : T .events ≤ 32 → length (reductionText k T) < 65536
+  reduction-short : length (reductionText k T) < 65536
   unfolding reductionText
-  reduction-short events =
+  reduction-short =
       let U = reduced unit k T in
-      let rows : U .rows ≤ 128 = omega (arith, rows-most unit k T start cells) in
+      let rows : U .rows ≤ 128 = omega (arith, rows-most unit k T (inside .start-in) (inside .cells-in)) in
       let line : 12 + U .events * 6 ≤ 204 = omega (arith, events-same unit k T) in
       let lines = mul-le-mul rows line in
       omega (
         arith,
-        listing-short (U .rows) (U .events) (U .cells) (U .marks) (T .rows) told (omega arith) (omega arith) (omega arith) (λ i. omega (arith, cells-most unit k T start cells i)) record-small,
+        listing-short (U .rows) (U .events) (U .cells) (U .marks) (T .rows) told (omega arith) (omega arith) (omega arith) (λ i. omega (arith, cells-most unit k T (inside .start-in) (inside .cells-in) i)) record-small,
       )
 
--- ---- an image, and the input
-
--- The numbers that stand in the image.
-module _ (k : Offset) (b : List ℕ) (rows count one start : ℕ) where
-  text-short : (j : Verdict) → judged (checks b rows count one start) ≡ j → length (textOf k b (answered j (read.Table rows (count / rows) start))) < 65536
-  text-short (Refused number place) e =
-      let s = checks-little b rows count one start .small number place e in
-      omega (arith, refusal-short number place (s .0) (s .1))
-  text-short Fine e =
-      let at = passed (checks b rows count one start) e in
-      let cells = all-inside rows (cellsAt b (targetsAt rows + 2) count) count (tabulate-length _ _) .0 (unbroken _ _ _ (at 9)) in
-      reduction-short k (tableIn b rows (count / rows) start) (ltb-false 128 rows (unbroken _ _ _ (at 2))) (leb-false rows start (unbroken _ _ _ (at 13)))
-      (λ i h. rw (whole-rows rows count (at 6)) (cells i (omega (arith, rw (whole-rows rows count (at 6), tabulate-length) at h)))) (few-events rows count (at 6) (at 7))
-
-image-short : (k : Offset) (b : List ℕ) → length (imageText k b) < 65536
-unfolding imageText imageRead
-image-short k b =
-    let rows = numberAt b 0 in
-    let count = numberAt b (targetsAt rows) in
-    text-short k b rows count (numberAt b (startAt rows count)) (numberAt b (startAt rows count + 2)) _ refl
+-- ---- the input
 
 -- For every input, also one that is no list of bytes.
 pub short : (input : List ℕ) → length (printed input) < 65536
 unfolding printed
 short input = pick (ltb (length input) 2)
   where
-    pick : (t : Bool) → length (cond t (refusalLine 8 0) (imageText (offsetIn input) (drop 2 input))) < 65536
+    pick : (t : Bool) → length (cond t (refusalLine 8 0) (imageText (reductionText (offsetIn input)) (drop 2 input))) < 65536
     pick true = omega (arith, refusal-short 8 0 (omega arith) (omega arith))
-    pick false = image-short (offsetIn input) (drop 2 input)
+    pick false = omega (arith, image-short (reductionText (offsetIn input)) 65535 (omega arith) (λ T inside. omega (arith, reduction-short (offsetIn input) T inside)) (drop 2 input))
 
 -- So a buffer of 65,536 bytes takes all of it: that is what `write_text` answers for one.
 pub whole : (input out : List ℕ) → length out ≡ 65536 → min (length (printed input)) (length out) ≡ length (printed input)

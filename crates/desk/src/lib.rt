@@ -7,7 +7,8 @@ ghost use lib.ListN.{length};
 ghost use Rattle.tables.specs.Table.{Valid, offset, none};
 ghost use Rattle.rules.specs.Rules.{tableOf, offsetOf};
 ghost use Rattle.text.specs.Text.{filled, Puts};
-ghost use Rattle.desk.specs.Printed.{reductionText, imageText, printed};
+ghost use Rattle.image_text.specs.ImageText.{imageText};
+ghost use Rattle.desk.specs.Printed.{reductionText, printed};
 ghost use Rattle.listing.specs.Listing.{blank as blankRecord};
 use image_reader::Read;
 use reduction::Answer;
@@ -81,7 +82,7 @@ fn write_reduction(
 
 // Writes the text for an image.
 fn write_image_text(offset: Offset, image: &[u8], out: &mut [u8]) -> usize
-    ensures { λ r. ⌜ Puts (now (out .entry)) 0 (imageText (offsetOf offset) (now (image .entry))) (now (out .exit)) r ⌝ }
+    ensures { λ r. ⌜ Puts (now (out .entry)) 0 (imageText (reductionText (offsetOf offset)) (now (image .entry))) (now (out .exit)) r ⌝ }
 {
     let mut cells = [0u16; 4096];
     let mut marks = [0u8; 16];

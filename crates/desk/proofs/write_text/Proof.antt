@@ -1,6 +1,6 @@
 use mathlib.Core.Path.{sym}
 use Rattle.text.proofs.Buffer.{puts-as, puts-all}
-use Rattle.desk.proofs.Taken.{short-text, whole-text}
+use Rattle.desk.proofs.Input.{short-text, whole-text}
 use borrow.Author.Needs.{needs}
 use Rattle.desk.proofs.write_text.Statement.{statement}
 use Rattle.desk.proofs.write_text.Tie as tie

@@ -6,9 +6,9 @@ use Prim.Native.Nat.{ℕ, _+_, _*_, _/_, _%_, _≤_, _<_}
 use native.Mathlib.Omega.{arith}
 use borrow.Author.Tests.{le-ltb, lt-ltb, ltb-false}
 use lib.Dec.{eqb, leb, ltb}
-use lib.ListN.{length, getD, drop, length-append, length-drop, List·getD-append}
-use lib.Seq.{drop-append-le}
+use lib.ListN.{length, getD, length-append, List·getD-append}
 use Rattle.tables.specs.Lists.{position}
+use Rattle.tables.specs.Table.{Table}
 use Rattle.tables.proofs.Lists.{tabulate-same}
 use Rattle.rules.specs.Rules.{rule, andThen, judged, winch, rowsRule, eventsRule, rowRule, spareRule}
 use Rattle.rules.specs.declared.Verdict.{Verdict}
@@ -17,8 +17,8 @@ use Rattle.rules.proofs.Checks.{unbroken, passed}
 use Rattle.images.specs.Image.{numberAt, cellsAt, targetsAt, startAt}
 use Rattle.image_reader.specs.Read.{atMost, cutRule, targetsRule, readChecks, imageRead, answered}
 use Rattle.image_reader.specs.declared.Read.the-variants as read
-use Rattle.desk.specs.Printed.{offsetIn, textOf, imageText, printed}
-use Rattle.desk.proofs.Few.{few-targets}
+use Rattle.image_text.specs.ImageText.{textOf, imageText}
+use Rattle.image_text.proofs.Few.{few-targets}
 
 -- Two rows of checks that say the same first, and go on the same if that is fine.
 first-same : {u v x y : Verdict} → u ≡ v → (v ≡ Fine → x ≡ y) → andThen u x ≡ andThen v y
@@ -148,14 +148,9 @@ module _ (b rest : List ℕ) (long : 8217 ≤ length b) where
         ∙ ap (λ (j : Verdict). answered j (read.Table rows (numberAt c (targetsAt rows) / rows) (numberAt c (startAt rows (numberAt c (targetsAt rows)) + 2)))) (all-same ∙ refusal .2),
   )
 
--- What `reduce` prints for an input longer than any sound one does not depend on the bytes beyond the first 8,219.
-pub long-input : (input rest : List ℕ) → 8219 ≤ length input → printed (input ++ rest) ≡ printed input
-unfolding printed imageText
-long-input input rest long =
-    let size : 8217 ≤ length (drop 2 input) = omega (arith, length-drop 2 input) in
-    let two : 2 ≤ length (input ++ rest) = omega (arith, length-append input rest) in
-    let image : drop 2 (input ++ rest) ≡ drop 2 input ++ rest = drop-append-le 2 input rest (omega arith) in
-    let k = offsetIn (input ++ rest) in
-    let r = long-refused (drop 2 input) rest size in
-    rw (le-ltb (length (input ++ rest)) 2 two, le-ltb (length input) 2 (omega arith))
-    (ap (λ (b : List ℕ). textOf k b (imageRead winch (atMost 128) b)) image ∙ ap (textOf k (drop 2 input ++ rest)) (r .1) ∙ sym (ap (textOf (offsetIn input) (drop 2 input)) (r .0)))
+-- What is printed for it does not depend on the bytes beyond the first 8,217, nor on what a table's text is.
+pub long-image : (f g : Table → List ℕ) (b rest : List ℕ) → 8217 ≤ length b → imageText f (b ++ rest) ≡ imageText g b
+unfolding imageText
+long-image f g b rest long =
+    let r = long-refused b rest long in
+    ap (textOf f (b ++ rest)) (r .1) ∙ sym (ap (textOf g b) (r .0))

@@ -1,0 +1,4 @@
+pub mod Few
+pub mod Taken
+pub mod Long
+pub mod Short
