@@ -1,7 +1,7 @@
 -- A table of at most 128 rows fits the buffers of `reduce`, and its text is read off them.
-use mathlib.Core.Path.{_≡_, refl, sym, ap, ap₂, _∙_}
+use mathlib.Core.Path.{_≡_, sym, ap, ap₂, _∙_}
 use mathlib.Core.List.{List, _++_, map}
-use Prim.Native.Nat.{ℕ, zero, suc, _+_, _-_, _*_, _/_, _%_, _^_, _≤_, _<_}
+use Prim.Native.Nat.{ℕ, _+_, _-_, _*_, _/_, _%_, _^_, _≤_, _<_}
 use native.Mathlib.Nat.{mul-le-mul, zero-add, le-trans}
 use native.Mathlib.Omega.{arith}
 use lib.Arith.{digits-lt}
@@ -21,6 +21,7 @@ use Rattle.rules.specs.Rules.{leftBy}
 use Rattle.reduction.specs.Reduce.{verdict, answerBy, Promise}
 use Rattle.reduction.proofs.Fakes.{accepts}
 use Rattle.text.specs.Text.{joined, decimal, text}
+use Rattle.text.proofs.Buffer.{joined-same}
 use Rattle.reducer.specs.Recorded.{recordOf, recordsBy}
 use Rattle.desk.specs.Printed.{reductionText}
 use Rattle.listing.specs.Listing.{targetWord, markWords, rowLine, recordLine, blank, listing}
@@ -31,11 +32,6 @@ no-rule-broken T v few =
     accepts T v 4096 16 1024 8640 (mul-le-mul few (v .events-fit)) (omega arith) (omega arith) (omega (arith, needed-value (T .rows), triangle-le (T .rows) 128 few, triangle-square 128))
 
 -- ---- texts of equal parts are equal
-
-joined-same : (n : ℕ) (f g : ℕ → List ℕ) → ((i : ℕ) → i < n → f i ≡ g i) → joined n f ≡ joined n g
-unfolding joined
-joined-same zero f g h = refl
-joined-same (suc n) f g h = ap₂ _++_ (joined-same n f g (λ i l. h i (omega arith))) (h n (omega arith))
 
 row-same : (events : ℕ) (cells cells′ marks marks′ : List ℕ) (i : ℕ) → ((a : ℕ) → a < events → getD cells (i * events + a) 0 ≡ getD cells′ (i * events + a) 0)
     → markOf marks i ≡ markOf marks′ i → rowLine events cells marks i ≡ rowLine events cells′ marks′ i

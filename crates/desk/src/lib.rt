@@ -116,13 +116,3 @@ pub fn write_text(input: &[u8], out: &mut [u8]) -> usize
     let offset = offset_of(input[0], input[1]);
     write_image_text(offset, &input[2..], out)
 }
-
-// The same for programs in C or Rust.
-#[no_mangle]
-pub extern "C" fn gelfost_reduce_text(input: &[u8], out: &mut [u8]) -> usize
-    ensures { λ r. ⌜ (let t = printed (now (input .entry)) in let room = now (out .entry) in
-        (now (out .exit) ≡ filled room t)
-        × (r ≡ min (length t) (length room))) ⌝ }
-{
-    write_text(input, out)
-}

@@ -1,7 +1,7 @@
 -- Laws of text that is written into a buffer, one piece after the other.
-use mathlib.Core.Path.{_≡_, sym, ap, subst⁻¹, _∙_}
+use mathlib.Core.Path.{_≡_, refl, sym, ap, ap₂, subst⁻¹, _∙_}
 use mathlib.Core.List.{List, [], _∷_, _++_, append-assoc, append-nil}
-use Prim.Native.Nat.{ℕ, suc, _+_, _-_, _≤_, _<_, min}
+use Prim.Native.Nat.{ℕ, zero, suc, _+_, _-_, _≤_, _<_, min}
 use native.Mathlib.Omega.{arith}
 use native.Mathlib.Decide.{decLt}
 use native.Mathlib.Numerals.{add-one}
@@ -116,3 +116,9 @@ module _ (f : ℕ → List ℕ) where
   pub puts-next : {out mid exit : List ℕ} {at m end : ℕ} (i : ℕ) → Puts out at (joined i f) mid m → Puts mid m (f i) exit end → Puts out at (joined (i + 1) f) exit end
   unfolding joined
   puts-next i p q = rw add-one (puts-then p q)
+
+-- Equal texts for each number.
+pub joined-same : (n : ℕ) (f g : ℕ → List ℕ) → ((i : ℕ) → i < n → f i ≡ g i) → joined n f ≡ joined n g
+unfolding joined
+joined-same zero f g h = refl
+joined-same (suc n) f g h = ap₂ _++_ (joined-same n f g (λ i l. h i (omega arith))) (h n (omega arith))

@@ -1,0 +1,4 @@
+pub mod Example
+pub mod Listed
+pub mod Input
+pub mod Short

@@ -1,0 +1,17 @@
+use Rattle.text.proofs.Buffer.{puts-then}
+use borrow.Author.Needs.{needs}
+use Rattle.sheet_desk.proofs.put_head.Statement.{statement}
+use Rattle.sheet_desk.proofs.put_head.Tie as tie
+
+returns : tie.Need-returns
+returns c = puts-then (c .before .before .before .before .before .before .put-text .ensures) (c .before .before .put-pair .ensures)
+
+pub put-head-spec : {M : Type 1} → statement M
+put-head-spec =
+    tie.close
+    (tie.spec
+    (λ c. search needs)
+    (λ c κs. search needs)
+    (λ c κs. search needs)
+    (λ c. search needs)
+    returns)

@@ -1,0 +1,95 @@
+// What the program `sheet` makes of the bytes that it reads: the text that it prints.
+ghost use mathlib.Core.Path.{_≡_};
+ghost use mathlib.Core.List.{_++_};
+ghost use Prim.Native.Nat.{_-_, _≤_, _<_, min};
+ghost use lib.ListN.{length, getD};
+ghost use Rattle.tables.specs.Table.{Valid};
+ghost use Rattle.rules.specs.Rules.{tableOf};
+ghost use Rattle.text.specs.Text.{text, joined, pairLine, filled, Puts};
+ghost use Rattle.sheet_desk.specs.Printed.{noneLine, sheetLines, sheetText, printed};
+use image_reader::Read;
+use offsets::Listed;
+use text::put_byte;
+use text::put_cell;
+use text::put_pair;
+use text::put_text;
+
+// Writes the first line.
+fn put_head(out: &mut [u8], at: usize, rows: usize, events: usize) -> usize
+    ensures { λ r. ⌜ Puts (now (out .entry)) at (text "sheet " ++ pairLine rows events) (now (out .exit)) r ⌝ }
+{
+    let worded = put_text(out, at, b"sheet ");
+    put_pair(out, worded, rows, events)
+}
+
+// Writes the lines of the first offsets, by a list of their counts.
+fn put_entries(out: &mut [u8], at: usize, list: &[u16], count: usize) -> usize
+    requires { ⌜ count ≤ length (now list) ⌝ }
+    ensures { λ r. ⌜ Puts (now (out .entry)) at (joined count (λ k. pairLine k (getD (now (list .entry)) k 0))) (now (out .exit)) r ⌝ }
+{
+    let mut next = at;
+    let mut k = 0;
+    while k < count {
+        next = put_pair(out, next, k, rules::wide(list[k]));
+        k += 1;
+    }
+    next
+}
+
+// Writes the last line.
+fn put_none(out: &mut [u8], at: usize, count: u16) -> usize
+    ensures { λ r. ⌜ Puts (now (out .entry)) at (noneLine count) (now (out .exit)) r ⌝ }
+{
+    let worded = put_text(out, at, b"none ");
+    let counted = put_cell(out, worded, count);
+    put_byte(out, counted, b'\n')
+}
+
+// Writes all lines. The last offset's count is also that for none.
+fn put_sheet(out: &mut [u8], rows: usize, events: usize, list: &[u16], count: usize) -> usize
+    requires { ⌜ (0 < count) × (count ≤ length (now list)) ⌝ }
+    ensures { λ r. ⌜ (let l = now (list .entry) in
+        Puts (now (out .entry)) 0 (sheetLines rows events count (λ k. getD l k 0) (getD l (count - 1) 0)) (now (out .exit)) r) ⌝ }
+{
+    let headed = put_head(out, 0, rows, events);
+    let entered = put_entries(out, headed, list, count);
+    put_none(out, entered, list[count - 1])
+}
+
+// Writes the text of a valid table of at most 128 rows.
+fn write_table_text(
+    rows: usize,
+    events: usize,
+    start: usize,
+    cells: &[u16],
+    marks: &[u8],
+    out: &mut [u8],
+) -> usize
+    requires { ⌜ Valid (tableOf rows events start (now cells) (now marks)) × (rows ≤ 128) ⌝ }
+    ensures { λ r. ⌜ Puts (now (out .entry)) 0 (sheetText (tableOf rows events start (now (cells .entry)) (now (marks .entry)))) (now (out .exit)) r ⌝ }
+{
+    let mut list = [0u16; 257];
+    let mut scratch = [0u16; 8640];
+    match offsets::write_sheet(rows, events, start, cells, marks, &mut list, &mut scratch) {
+        Listed::Refused(number, place) => text::put_refusal(out, 0, number, place),
+        Listed::Entries(count) => put_sheet(out, rows, events, &list, count),
+    }
+}
+
+// Writes what `sheet` prints for its input, as far as there is room, and answers how many bytes that are: all of them if fewer than there is room for.
+pub fn write_sheet_text(input: &[u8], out: &mut [u8]) -> usize
+    ensures { λ r. ⌜ (let t = printed (now (input .entry)) in let room = now (out .entry) in
+        (now (out .exit) ≡ filled room t)
+        × (r ≡ min (length t) (length room))) ⌝ }
+{
+    let mut cells = [0u16; 4096];
+    let mut marks = [0u8; 16];
+    match image_reader::read_within(rules::winch(), 128, input, &mut cells, &mut marks) {
+        Read::Refused(number, place) => text::put_refusal(out, 0, number, place),
+        Read::Table(rows, events, start) => {
+            let count = rows * events;
+            let bytes = marks::mark_bytes(rows);
+            write_table_text(rows, events, start, &cells[..count], &marks[..bytes], out)
+        }
+    }
+}
