@@ -21,12 +21,8 @@ pub struct Listing {
 /// Reads a listing strictly: one space between words, a newline after every
 /// line, numbers without leading zeros, nothing more.
 pub fn read_listing(text: &[u8]) -> Result<Listing, String> {
-    let text = std::str::from_utf8(text).map_err(|_| "not plain text".to_string())?;
-    let body = text.strip_suffix('\n').ok_or("the last line has no newline")?;
-    let mut lines = body.split('\n');
-    let mut line = || -> Result<Vec<&str>, String> {
-        Ok(lines.next().ok_or("a line is missing")?.split(' ').collect())
-    };
+    let mut lines = lines_of(text)?;
+    let mut line = || lines.next().ok_or("a line is missing");
 
     let head = line()?;
     let ["table", rows, events] = head[..] else {
@@ -81,7 +77,14 @@ pub fn read_listing(text: &[u8]) -> Result<Listing, String> {
     Ok(Listing { table, fates, depths })
 }
 
-fn number(word: &str) -> Result<usize, String> {
+/// The words of each line.
+pub fn lines_of(text: &[u8]) -> Result<impl Iterator<Item = Vec<&str>>, String> {
+    let text = std::str::from_utf8(text).map_err(|_| "not plain text".to_string())?;
+    let body = text.strip_suffix('\n').ok_or("the last line has no newline")?;
+    Ok(body.split('\n').map(|line| line.split(' ').collect()))
+}
+
+pub fn number(word: &str) -> Result<usize, String> {
     let value: usize = word.parse().map_err(|_| format!("{word:?} is no number"))?;
     if value.to_string() != word {
         return Err(format!("{word:?} is not written plainly"));

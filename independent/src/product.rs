@@ -1,21 +1,36 @@
-//! The product, called through its one C function.
+//! The product, called through its two C functions.
 
-/// Something that prints for an input what `reduce` prints.
-pub type Reduce = fn(&[u8]) -> Vec<u8>;
+use std::sync::Mutex;
 
-/// The product's text for an input.
+/// Something that prints a text for an input, as `reduce` and `sheet` do.
+pub type Program<'a> = &'a (dyn Fn(&[u8]) -> Vec<u8> + Sync);
+
+/// A function of the product: input and its length, lent output and its
+/// length; it answers how many bytes it has printed there.
+type Function = unsafe extern "C" fn(*const u8, usize, *mut u8, usize) -> usize;
+
+extern "C" {
+    fn gelfost_reduce_text(i: *const u8, il: usize, o: *mut u8, ol: usize) -> usize;
+    fn gelfost_sheet_text(i: *const u8, il: usize, o: *mut u8, ol: usize) -> usize;
+}
+
+/// The product's text of `reduce` for an input.
 pub fn reduce_text(input: &[u8]) -> Vec<u8> {
-    use std::sync::Mutex;
+    text(gelfost_reduce_text, input)
+}
 
-    extern "C" {
-        fn gelfost_reduce_text(i: *const u8, il: usize, o: *mut u8, ol: usize) -> usize;
-    }
+/// The product's text of `sheet` for an input.
+pub fn sheet_text(input: &[u8]) -> Vec<u8> {
+    text(gelfost_sheet_text, input)
+}
+
+fn text(function: Function, input: &[u8]) -> Vec<u8> {
     /// The length of the lent output.
     const OUTPUT: usize = 65_536;
     /// Bytes behind the lent output, which the product must leave alone.
     const GUARD: usize = 256;
     const FILL: u8 = 0xA5;
-    // One call at a time: nothing says that the function may be called twice
+    // One call at a time: nothing says that the functions may be called twice
     // at once.
     static ONE_AT_A_TIME: Mutex<()> = Mutex::new(());
 
@@ -23,9 +38,7 @@ pub fn reduce_text(input: &[u8]) -> Vec<u8> {
     let before = input.to_vec();
     let length = {
         let _turn = ONE_AT_A_TIME.lock().unwrap_or_else(|poisoned| poisoned.into_inner());
-        unsafe {
-            gelfost_reduce_text(input.as_ptr(), input.len(), output.as_mut_ptr(), OUTPUT)
-        }
+        unsafe { function(input.as_ptr(), input.len(), output.as_mut_ptr(), OUTPUT) }
     };
     assert!(length <= OUTPUT, "the product says it printed {length} bytes");
     assert!(output[OUTPUT..].iter().all(|&b| b == FILL), "the product wrote behind its output");

@@ -167,6 +167,37 @@ pub fn table(random: &mut Random, shape: Shape, rows: usize, events: usize) -> T
     table
 }
 
+/// A comb, made for sheets: a spine of rows from the start on, each with a tooth,
+/// a line of rows; the ends of teeth and spine lead to the last row. So depth
+/// plus distance has many values, and the row count falls at many offsets. (With
+/// one event only the spine is reached.)
+pub fn comb(random: &mut Random, rows: usize, events: usize) -> Table {
+    let last = rows - 1;
+    let longest = random.between(1, 9);
+    let mut targets = vec![last; rows * events];
+    let marks: Vec<bool> = (0..rows).map(|_| random.chance(1, 2)).collect();
+    let mut spine = 0;
+    while spine < last {
+        let onward = (spine + 1 + random.between(1, longest)).min(last);
+        for row in spine..onward {
+            for event in 0..events {
+                targets[row * events + event] = if random.chance(1, 40) {
+                    random.between(row + 1, last)
+                } else if row == spine && event == 0 {
+                    onward
+                } else if row + 1 < onward {
+                    row + 1
+                } else {
+                    last
+                };
+            }
+        }
+        spine = onward;
+    }
+    let table = Table { rows, events, start: 0, targets, marks };
+    renumbered(&table, &random.order(rows))
+}
+
 /// Equal marks towards the end, so that distances become finite.
 fn quieten_end(random: &mut Random, marks: &mut [bool]) {
     if random.chance(2, 3) {

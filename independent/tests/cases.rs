@@ -2,8 +2,9 @@
 //! of "Refused, and on what" that `reduce` can show. The expected texts are
 //! written here by hand from the document, not made by rules.rs.
 
-use independent::product::reduce_text;
+use independent::product::{reduce_text, sheet_text};
 use independent::rules::{text_for, Length, Study};
+use independent::sheet;
 use independent::table::Table;
 
 /// Bytes from hexadecimal words.
@@ -11,11 +12,22 @@ fn bytes(words: &str) -> Vec<u8> {
     words.split_whitespace().map(|word| u8::from_str_radix(word, 16).unwrap()).collect()
 }
 
-/// The product's text is the expected one; rules.rs's too.
+/// The product's text is the expected one; rules.rs's too. What `reduce` refuses
+/// of an image, `sheet` refuses of the image alone.
 fn prints(input: &[u8], expected: &str) {
     let printed = reduce_text(input);
     assert_eq!(String::from_utf8_lossy(&printed), expected, "product, input {input:x?}");
     assert_eq!(text_for(input), expected, "own reading, input {input:x?}");
+    if input.len() >= 2 && expected.starts_with("refused") {
+        prints_sheet(&input[2..], expected);
+    }
+}
+
+/// The same for `sheet`.
+fn prints_sheet(image: &[u8], expected: &str) {
+    let printed = sheet_text(image);
+    assert_eq!(String::from_utf8_lossy(&printed), expected, "product, image {image:x?}");
+    assert_eq!(sheet::text_for(image), expected, "own reading, image {image:x?}");
 }
 
 const W: bool = false; // waiting
@@ -212,6 +224,57 @@ fn case_f() {
              1 unreached\n",
         );
     }
+}
+
+/// The sheets of these tables (request 101). Once one row remains, as of A from
+/// offset 1 and of C from offset 2 on, it remains; C has three rows at offset 0 as
+/// at 1, since rows 2 and 3 are equal; D has three as in its cases above.
+#[test]
+fn sheets() {
+    prints_sheet(&a().image(), "sheet 3 1\n0 2\n1 1\n2 1\n3 1\n4 1\n5 1\n6 1\nnone 1\n");
+    prints_sheet(&b().image(), "sheet 3 2\n0 3\n1 3\n2 3\n3 3\n4 3\n5 3\n6 3\nnone 3\n");
+    prints_sheet(
+        &c().image(),
+        "sheet 4 1\n0 3\n1 3\n2 1\n3 1\n4 1\n5 1\n6 1\n7 1\n8 1\nnone 1\n",
+    );
+    prints_sheet(
+        &d().image(),
+        "sheet 4 2\n0 3\n1 3\n2 3\n3 3\n4 3\n5 3\n6 3\n7 3\n8 3\nnone 3\n",
+    );
+    prints_sheet(&e(W).image(), "sheet 1 2\n0 1\n1 1\n2 1\nnone 1\n");
+    prints_sheet(&e(R).image(), "sheet 1 2\n0 1\n1 1\n2 1\nnone 1\n");
+    prints_sheet(&f().image(), "sheet 2 1\n0 1\n1 1\n2 1\n3 1\n4 1\nnone 1\n");
+}
+
+/// C with 128 rows: a line of rows, the last leading to itself, only row r
+/// ready. The rows behind r are equal, so r + 2 rows remain at offset 0. Of any
+/// other two rows the first, row i, has depth i, and their distance is one more
+/// than the r - i events from it to row r. Together that is r + 1: before this
+/// offset nothing more folds, and from it on one waiting row remains.
+#[test]
+fn sheets_of_128_rows() {
+    let targets: Vec<usize> = (0..128).map(|row: usize| (row + 1).min(127)).collect();
+    for ready in 0..127 {
+        let mut marks = [W; 128];
+        marks[ready] = R;
+        let mut expected = "sheet 128 1\n".to_string();
+        for k in 0..=256 {
+            expected += &format!("{k} {}\n", if k <= ready { ready + 2 } else { 1 });
+        }
+        prints_sheet(&Table::new(1, 0, &targets, &marks).image(), &(expected + "none 1\n"));
+    }
+}
+
+/// `sheet` reads no offset: an image of no byte has length 0, of one byte 1.
+#[test]
+fn sheets_of_short_images() {
+    prints_sheet(&[], "refused 8 0\n");
+    for byte in 0..=255 {
+        prints_sheet(&[byte], "refused 8 1\n");
+    }
+    prints_sheet(&bytes("81 00"), "refused 12 0\n");
+    prints_sheet(&bytes("00 04"), "refused 12 0\n");
+    prints_sheet(&bytes("01 04"), "refused 1 0\n");
 }
 
 /// What the document says of B and D beside their listings (own reading only):

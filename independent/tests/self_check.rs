@@ -8,7 +8,8 @@ use independent::judge::{all_offsets, depths_by_lengths, fits, judge, read_listi
 use independent::parallel::{spread, Counter};
 use independent::random::Random;
 use independent::rules::{assemble, depths, listing, text_for, Fate, Length, Study};
-use independent::shapes::{renumbered, table, Shape, SHAPES};
+use independent::shapes::{table, Shape, SHAPES};
+use independent::small::{all_reached_tables, all_tables};
 use independent::table::{read_image, read_input, Table};
 use std::collections::HashSet;
 
@@ -261,42 +262,24 @@ fn rules_against_cutter_on_all_small_tables() {
         [(1, 1), (2, 1), (3, 1), (4, 1), (5, 1), (1, 2), (2, 2), (3, 2), (1, 3), (2, 3)]
     {
         let cutter = Cutter::new(rows, events);
-        let tried = Counter::default();
-        let count = count_all(rows, events);
-        spread(count.div_ceil(1000), |piece| {
-            for number in piece * 1000..((piece + 1) * 1000).min(count) {
-                rules_against_cutter(&cutter, &table_number(rows, events, number));
-                tried.add(1);
-            }
-        });
+        let tried = all_tables(rows, events, |given| rules_against_cutter(&cutter, given));
         println!(
-            "rules against cutter: all {} tables of {rows} rows and {events} events, \
+            "rules against cutter: all {tried} tables of {rows} rows and {events} events, \
              each against {} smaller ones",
-            tried.value(),
             cutter.tables_tried(rows)
         );
-        sum += tried.value();
+        sum += tried;
     }
     println!("rules against cutter: {sum} tables in all, at all offsets and none");
 }
 
 /// Four rows and two events: all tables in which every row is reached, up to
-/// renumbering, each once under a random renumbering.
+/// renumbering.
 #[test]
 fn rules_against_cutter_on_four_rows() {
     let cutter = Cutter::new(4, 2);
-    let list = forms(4, 2);
-    let tried = Counter::default();
-    spread(list.len(), |piece| {
-        let mut random = Random::new(3_000 + piece as u64);
-        for marks in 0..16usize {
-            let marks: Vec<bool> = (0..4).map(|row| marks >> row & 1 == 1).collect();
-            let table = Table::new(2, 0, &list[piece], &marks);
-            rules_against_cutter(&cutter, &renumbered(&table, &random.order(4)));
-            tried.add(1);
-        }
-    });
-    println!("rules against cutter: {} tables of 4 rows and 2 events", tried.value());
+    let tried = all_reached_tables(4, 2, 3_000, |given| rules_against_cutter(&cutter, given));
+    println!("rules against cutter: {tried} tables of 4 rows and 2 events");
 }
 
 #[test]

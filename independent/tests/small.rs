@@ -8,13 +8,11 @@
 //! Document 01, (d): "a program checks the others ..., next to a brute-force
 //! cutter made independently."
 
-use independent::cutter::{count_all, forms, table_number, Cutter};
+use independent::cutter::Cutter;
 use independent::judge::{all_offsets, judge, stop};
-use independent::parallel::{spread, Counter};
 use independent::product::reduce_text;
-use independent::random::Random;
 use independent::rules::Study;
-use independent::shapes::renumbered;
+use independent::small::{all_reached_tables, all_tables};
 use independent::table::{Offset, Table};
 
 fn check(cutter: &Cutter, given: &Table, offsets: &[Offset]) {
@@ -55,55 +53,29 @@ fn all_tables_up_to_three_rows_and_two_events() {
         for rows in 1..=3 {
             let cutter = Cutter::new(rows, events);
             let offsets = all_offsets(rows);
-            let count = count_all(rows, events);
-            let tried = Counter::default();
-            spread(count.div_ceil(200), |piece| {
-                for number in piece * 200..((piece + 1) * 200).min(count) {
-                    check(&cutter, &table_number(rows, events, number), &offsets);
-                    tried.add(1);
-                }
-            });
+            let tried = all_tables(rows, events, |given| check(&cutter, given, &offsets));
             println!(
-                "product: all {} tables of {rows} rows and {events} events at {} offsets, \
+                "product: all {tried} tables of {rows} rows and {events} events at {} offsets, \
                  each against {} smaller tables",
-                tried.value(),
                 offsets.len(),
                 cutter.tables_tried(rows)
             );
-            sum += tried.value();
+            sum += tried;
         }
     }
     println!("product: {sum} tables in all");
 }
 
 /// More than asked: all tables of 4 rows and 1 event; and of 4 rows and 2
-/// events all in which every row is reached, up to renumbering (the forms of
-/// cutter.rs with all marks), each under one random renumbering.
+/// events all in which every row is reached, up to renumbering.
 #[test]
 fn all_tables_of_four_rows() {
     let offsets = all_offsets(4);
     let cutter = Cutter::new(4, 1);
-    let count = count_all(4, 1);
-    let tried = Counter::default();
-    spread(count.div_ceil(200), |piece| {
-        for number in piece * 200..((piece + 1) * 200).min(count) {
-            check(&cutter, &table_number(4, 1, number), &offsets);
-            tried.add(1);
-        }
-    });
-    println!("product: all {} tables of 4 rows and 1 event", tried.value());
+    let tried = all_tables(4, 1, |given| check(&cutter, given, &offsets));
+    println!("product: all {tried} tables of 4 rows and 1 event");
 
     let cutter = Cutter::new(4, 2);
-    let list = forms(4, 2);
-    let tried = Counter::default();
-    spread(list.len(), |piece| {
-        let mut random = Random::new(10_000 + piece as u64);
-        for marks in 0..16usize {
-            let marks: Vec<bool> = (0..4).map(|row| marks >> row & 1 == 1).collect();
-            let given = Table::new(2, 0, &list[piece], &marks);
-            check(&cutter, &renumbered(&given, &random.order(4)), &offsets);
-            tried.add(1);
-        }
-    });
-    println!("product: {} tables of 4 rows and 2 events, all rows reached", tried.value());
+    let tried = all_reached_tables(4, 2, 10_000, |given| check(&cutter, given, &offsets));
+    println!("product: {tried} tables of 4 rows and 2 events, all rows reached");
 }

@@ -1,0 +1,293 @@
+//! Damaged images and random bytes, handed to a test one by one, and the
+//! comparison of what is printed for them.
+//!
+//! An input of `reduce` is a head of two bytes, the offset, and an image; an
+//! input of `sheet` is an image alone, so its head is empty.
+
+use crate::judge::hexadecimal;
+use crate::parallel::spread;
+use crate::product::Program;
+use crate::random::Random;
+use crate::shapes::{table, Shape, SHAPES};
+use crate::table::{Offset, Table};
+use std::sync::Mutex;
+
+/// Compares the text printed for one input with the expected one; answers the
+/// refusal's number, or 0 where there is none.
+pub fn same(program: Program, input: &[u8], expected: &str) -> Result<usize, String> {
+    let printed = program(input);
+    if printed != expected.as_bytes() {
+        return Err(format!(
+            "input of {} bytes, the first: {}\nprinted:\n{}\nexpected:\n{expected}",
+            input.len(),
+            hexadecimal(&input[..input.len().min(200)]),
+            String::from_utf8_lossy(&printed)
+        ));
+    }
+    Ok(match expected.strip_prefix("refused ") {
+        None => 0,
+        Some(rest) => rest.split(' ').next().unwrap().parse().unwrap(),
+    })
+}
+
+/// Counts answers by refusal number.
+#[derive(Default)]
+pub struct Answers(Mutex<[usize; 13]>);
+
+impl Answers {
+    /// Counts an answer of [`same`]; stops at a fault.
+    pub fn count(&self, answer: Result<usize, String>) {
+        match answer {
+            Ok(number) => self.0.lock().unwrap()[number] += 1,
+            Err(what) => panic!("{what}"),
+        }
+    }
+
+    /// How many answers of each number, those not refused under `taken`.
+    pub fn show(&self, what: &str, taken: &str) {
+        let list = self.0.lock().unwrap();
+        let sum: usize = list.iter().sum();
+        let parts: Vec<String> = list
+            .iter()
+            .enumerate()
+            .filter(|(_, &count)| count > 0)
+            .map(|(number, count)| match number {
+                0 => format!("{taken} {count}"),
+                number => format!("refused {number}: {count}"),
+            })
+            .collect();
+        println!("product: {what}: {sum} inputs ({})", parts.join(", "));
+    }
+}
+
+/// The inputs of a program.
+#[derive(Clone, Copy)]
+pub enum Inputs {
+    /// An offset and an image.
+    OfReduce,
+    /// An image.
+    OfSheet,
+}
+
+impl Inputs {
+    /// The length of the head.
+    fn head(self) -> usize {
+        match self {
+            Inputs::OfReduce => 2,
+            Inputs::OfSheet => 0,
+        }
+    }
+
+    /// A program's input for a table; `sheet` is told no offset.
+    fn of(self, table: &Table, offset: Offset) -> Vec<u8> {
+        match self {
+            Inputs::OfReduce => table.input(offset),
+            Inputs::OfSheet => table.image(),
+        }
+    }
+
+    /// Eight sound inputs, to be damaged.
+    fn sound(self) -> Vec<Vec<u8>> {
+        let mut random = Random::new(50_000);
+        let a = Table::new(1, 0, &[1, 2, 2], &[true, false, false]);
+        let e = Table::new(2, 0, &[0, 0], &[false]);
+        let d = Table::new(2, 3, &[1, 2, 0, 0, 0, 0, 0, 0], &[false, true, false, false]);
+        let mut list = vec![self.of(&a, Some(0)), self.of(&e, Some(3)), self.of(&d, Some(1))];
+        for (shape, rows, events) in [
+            (Shape::Free, 8, 1),
+            (Shape::Chain, 9, 2),
+            (Shape::Tree, 7, 3),
+            (Shape::Copies, 16, 2),
+            (Shape::Layers, 17, 1),
+        ] {
+            list.push(self.of(&table(&mut random, shape, rows, events), None));
+        }
+        list
+    }
+
+    /// Each single byte of the sound inputs set to each value.
+    pub fn single_bytes(self, test: impl Fn(&[u8]) + Sync) {
+        for input in self.sound() {
+            spread(input.len(), |place| {
+                for value in 0..=255 {
+                    let mut changed = input.clone();
+                    changed[place] = value;
+                    test(&changed);
+                }
+            });
+        }
+    }
+
+    /// The sound inputs cut at each length, also with a wrong byte of the image
+    /// before the cut, and extended by each byte.
+    pub fn cut_and_extended(self, test: impl Fn(&[u8])) {
+        for input in self.sound() {
+            for length in 0..input.len() {
+                test(&input[..length]);
+                for place in self.head()..length {
+                    let mut changed = input[..length].to_vec();
+                    changed[place] = 255;
+                    test(&changed);
+                }
+            }
+            for value in 0..=255 {
+                let mut longer = input.clone();
+                longer.push(value);
+                test(&longer);
+            }
+        }
+    }
+
+    /// The largest image, 128 rows and 32 events, 8,216 bytes: cut at each
+    /// length, each target made no row, and other bytes changed.
+    pub fn largest(self, test: impl Fn(&[u8]) + Sync) {
+        let mut random = Random::new(51_000);
+        let input = self.of(&table(&mut random, Shape::Falling, 128, 32), Some(9));
+        assert_eq!(input.len(), self.head() + 8_216);
+        for length in 0..input.len() {
+            test(&input[..length]);
+        }
+        // Targets at every place made no row, in the low and in the high byte.
+        // (The targets begin after the head, the row count, the marks and
+        // their own count.)
+        let targets = self.head() + 2 + 16 + 2;
+        for place in targets..targets + 2 * 128 * 32 {
+            let mut changed = input.clone();
+            changed[place] = 128;
+            test(&changed);
+        }
+        // The head, the row count, the marks, the counts and the start; and
+        // some targets made other rows.
+        let mut places: Vec<usize> = (0..targets).chain(input.len() - 4..input.len()).collect();
+        places.extend((0..40).map(|_| random.between(targets, input.len() - 5)));
+        spread(places.len(), |number| {
+            for value in [0, 1, 2, 127, 128, 255] {
+                let mut changed = input.clone();
+                changed[places[number]] = value;
+                test(&changed);
+            }
+        });
+    }
+
+    /// Several bytes of a sound input changed; some of these cut or extended.
+    pub fn several_bytes(self, test: impl Fn(&[u8]) + Sync) {
+        let list = self.sound();
+        spread(200, |piece| {
+            let mut random = Random::new(52_000 + piece as u64);
+            for _ in 0..200 {
+                let mut input = random.pick(&list).clone();
+                for _ in 0..random.between(2, 4) {
+                    let place = random.below(input.len());
+                    input[place] = *random.pick(&[0, 1, 2, 3, 8, 16, 64, 128, 255]);
+                }
+                match random.below(4) {
+                    0 => input.truncate(random.below(input.len())),
+                    1 => input.extend((0..random.between(1, 9)).map(|_| 0)),
+                    _ => {}
+                }
+                test(&input);
+            }
+        });
+    }
+
+    /// Random bytes, and all inputs of a few bytes.
+    pub fn random_bytes(self, test: impl Fn(&[u8]) + Sync) {
+        let behind_head = |image: &[u8]| test(&[&[0, 0][..self.head()], image].concat());
+        // All inputs of up to two bytes, and all row counts with nothing after.
+        test(&[]);
+        for low in 0..=255u8 {
+            test(&[low]);
+            for high in 0..=255u8 {
+                test(&[low, high]);
+                behind_head(&[low, high]);
+                behind_head(&[1, 0, 1, low, high]);
+                behind_head(&[3, 0, 1, low, high, 0, 0]);
+            }
+        }
+        spread(400, |piece| {
+            let mut random = Random::new(53_000 + piece as u64);
+            for _ in 0..500 {
+                let length = random.below(60);
+                // Small values more often, so that sound counts occur.
+                let small = random.chance(3, 4);
+                let input: Vec<u8> = (0..length)
+                    .map(|place| {
+                        if place % 2 == 1 && small {
+                            0
+                        } else if small {
+                            random.below(6) as u8
+                        } else {
+                            random.below(256) as u8
+                        }
+                    })
+                    .collect();
+                test(&input);
+            }
+            // Bytes made section by section, so that later sections are reached.
+            for _ in 0..500 {
+                let mut input = [random.below(9) as u8, 0][..self.head()].to_vec();
+                let rows = random.between(1, 9);
+                input.extend([rows as u8, 0]);
+                for byte in 0..rows.div_ceil(8) {
+                    let spare = if byte == rows / 8 { 1usize << (rows % 8) } else { 256 };
+                    let odd = random.chance(1, 20);
+                    input.push(random.below(if odd { 256 } else { spare }) as u8);
+                }
+                let events = random.below(5);
+                let count = rows * events + random.chance(1, 20) as usize;
+                input.extend([count as u8, 0]);
+                for _ in 0..count {
+                    let bound = rows + random.chance(1, 30) as usize;
+                    input.extend([random.below(bound) as u8, 0]);
+                }
+                input.extend([1 + random.chance(1, 10) as u8, 0]);
+                let bound = rows + random.chance(1, 10) as usize;
+                input.extend([random.below(bound) as u8, 0]);
+                if random.chance(1, 10) {
+                    input.push(0);
+                }
+                if random.chance(1, 10) {
+                    input.truncate(random.below(input.len()));
+                }
+                test(&input);
+            }
+        });
+    }
+
+    /// Inputs as long as the largest image and longer.
+    pub fn long(self, test: impl Fn(&[u8])) {
+        let mut random = Random::new(54_000);
+        let mut lengths: Vec<usize> = (8_216..8_219).map(|image| self.head() + image).collect();
+        lengths.extend([10_000, 65_535, 65_536, 65_537, 65_538, 65_539, 70_000]);
+        for length in lengths {
+            test(&vec![0; length]);
+            test(&vec![1; length]);
+            test(&vec![255; length]);
+            for _ in 0..10 {
+                let bytes: Vec<u8> = (0..length).map(|_| random.below(256) as u8).collect();
+                test(&bytes);
+            }
+            // Sound images with much behind them, sound heads with much behind.
+            for mut input in self.sound() {
+                input.resize(length, 0);
+                test(&input);
+                let place = random.below(20);
+                input[place] = random.below(256) as u8;
+                test(&input);
+            }
+            for shape in SHAPES {
+                let mut input = self.of(&table(&mut random, shape, 128, 32), None);
+                if input.len() < length {
+                    input.resize(length, 7);
+                }
+                test(&input);
+            }
+            for rows in [128usize, 129, 1024, 1025, 65_535] {
+                let mut bytes = vec![0; length];
+                bytes[self.head()] = (rows % 256) as u8;
+                bytes[self.head() + 1] = (rows / 256) as u8;
+                test(&bytes);
+            }
+        }
+    }
+}
