@@ -1,4 +1,4 @@
-// What the test programs print with: lines put into a lent buffer from a place on, as `text` puts their parts, and the buffer printed.
+// What programs print with: the lines of the test programs, put into a lent buffer from a place on as `text` puts their parts, and the call that prints a buffer.
 ghost use mathlib.Core.Path.{_≡_};
 ghost use mathlib.Core.List.{_++_};
 ghost use Prim.Native.Nat.{min};
@@ -75,11 +75,14 @@ fn least(a: usize, b: usize) -> usize
     if a < b { a } else { b }
 }
 
-// Writes the first n bytes of a buffer to standard output, as far as there are so many, and answers how many that are.
+// Writes the first n bytes of a buffer to standard output, as far as there are so many, and answers how many that are. A write that
+// fails is told on standard error.
 pub fn print(out: &[u8], n: usize) -> usize
     ensures { λ r. ⌜ r ≡ min n (length (now (out .entry))) ⌝ }
 {
     let count = least(n, out.len());
-    io::write_all(STDOUT_FILENO, &out[..count]);
+    if !io::write_all(STDOUT_FILENO, &out[..count]) {
+        os::fail(b"standard output");
+    }
     count
 }

@@ -1,17 +1,8 @@
 // `reduce`: reads an offset and an image from standard input, and prints the listing of the reduced table, or the refusal.
 use libc::STDIN_FILENO;
-use libc::STDOUT_FILENO;
 
-// Prints what belongs to the input. There is room for all of it (`short` in crates/desk/proofs/Short.antt).
-fn print_text(input: &[u8]) {
-    let mut out = io::large_buffer();
-    let n = desk::write_text(input, &mut out);
-    if !io::write_all(STDOUT_FILENO, &out[..n]) {
-        os::fail(b"reduce: standard output");
-    }
-}
-
-// Input that fills the buffer is longer than any sound one, and is refused whatever follows.
+// Input that fills the buffer is longer than any sound one, and is refused whatever follows. There is room for all of the text
+// (`short` in crates/desk/proofs/Short.antt).
 fn main() {
     let mut input = io::large_buffer();
     let n = io::read_full(STDIN_FILENO, &mut input);
@@ -19,5 +10,7 @@ fn main() {
         os::fail(b"reduce: standard input");
         return;
     }
-    print_text(&input[..n]);
+    let mut out = io::large_buffer();
+    let length = desk::write_text(&input[..n], &mut out);
+    printing::print(&out, length);
 }

@@ -1,17 +1,8 @@
 // `sheet`: reads an image from standard input, and prints the row counts of its table at every offset, or the refusal.
 use libc::STDIN_FILENO;
-use libc::STDOUT_FILENO;
 
-// Prints what belongs to the input. There is room for all of it (`short` in crates/sheet_desk/proofs/Short.antt).
-fn print_text(input: &[u8]) {
-    let mut out = io::large_buffer();
-    let n = sheet_desk::write_sheet_text(input, &mut out);
-    if !io::write_all(STDOUT_FILENO, &out[..n]) {
-        os::fail(b"sheet: standard output");
-    }
-}
-
-// Input that fills the buffer is longer than any sound one, and is refused whatever follows.
+// Input that fills the buffer is longer than any sound one, and is refused whatever follows. There is room for all of the text
+// (`short` in crates/sheet_desk/proofs/Short.antt).
 fn main() {
     let mut input = io::large_buffer();
     let n = io::read_full(STDIN_FILENO, &mut input);
@@ -19,5 +10,7 @@ fn main() {
         os::fail(b"sheet: standard input");
         return;
     }
-    print_text(&input[..n]);
+    let mut out = io::large_buffer();
+    let length = sheet_desk::write_sheet_text(&input[..n], &mut out);
+    printing::print(&out, length);
 }
