@@ -8,7 +8,7 @@ use Rattle.tables.specs.Table.{pack, digits}
 use Rattle.tables.specs.Lengths.{least, distance, lead, reached, depth}
 use Rattle.tables.specs.Reduction.{similarBy, level, levels, order, similar, kept, fold, met, numbering, number, renumbered, fateOf, reduced, records}
 use Rattle.marks.specs.Marks.{spareSet}
-use Rattle.image_reader.specs.Read.{imageRead}
+use Rattle.image_reader.specs.Read.{readOf}
 use Rattle.text.specs.Text.{text, decimalIn, decimal, joined, pairLine}
 use Rattle.listing.specs.Listing.{targetWord, markWords, rowLine, depthWords, fateWords, recordLine, listing}
 use Rattle.image_text.specs.ImageText.{imageText}
@@ -19,5 +19,5 @@ abbrev pub inputA0 : List ℕ
 inputA0 = 0 ∷ 0 ∷ 3 ∷ 0 ∷ 1 ∷ 3 ∷ 0 ∷ 1 ∷ 0 ∷ 2 ∷ 0 ∷ 2 ∷ 0 ∷ 1 ∷ 0 ∷ 0 ∷ 0 ∷ []
 
 pub A0 : printed inputA0 ≡ text "table 2 1\n0 1 ready\n1 1 wait\nfolds 3\n0 kept 0 depth 0\n1 folded 2 depth 1\n2 kept 1 depth endless\n"
-unfolding every least rounds near distance lead reached depth pack digits tabulate filter some first position sift similarBy level levels order similar kept fold met numbering number renumbered fateOf reduced records spareSet imageRead decimalIn decimal joined pairLine targetWord markWords rowLine depthWords fateWords recordLine listing reductionText imageText printed
+unfolding every least rounds near distance lead reached depth pack digits tabulate filter some first position sift similarBy level levels order similar kept fold met numbering number renumbered fateOf reduced records spareSet readOf decimalIn decimal joined pairLine targetWord markWords rowLine depthWords fateWords recordLine listing reductionText imageText printed
 A0 = refl

@@ -7,6 +7,7 @@ use borrow.Author.Tests.{le-ltb}
 use Rattle.rules.specs.Rules.{rule, andThen, outside, rowsRule}
 use Rattle.rules.proofs.Checks.{inside}
 use Rattle.images.specs.Image.{numberAt}
+use Rattle.images.specs.declared.Form.{Form}
 use Rattle.rules.specs.declared.Limits.{Limits}
 use Rattle.rules.specs.declared.Verdict.{Verdict}
 use Rattle.rules.specs.declared.Verdict.the-variants.{Fine, Refused}
@@ -14,7 +15,7 @@ use Rattle.image_reader.specs.declared.Section.{Section}
 use Rattle.image_reader.specs.declared.Section.the-variants as section
 use Rattle.image_reader.specs.declared.Read.{Read}
 use Rattle.image_reader.specs.declared.Read.the-variants as read
-use Rattle.image_reader.specs.Read.{anyRows, atMost, answered, imageRead}
+use Rattle.image_reader.specs.Read.{anyRows, atMost, answered, readOf}
 use Rattle.image_reader.specs.Sections.{checked, opened, onward, numberSection, marksSection, targetsSection, startSection, sectionsRead}
 
 onward-opened : (s : Section) (f : ℕ → ℕ → Section) (g : ℕ → ℕ → Read) → onward (opened s f) g ≡ onward s (λ x y. onward (f x y) g)
@@ -30,9 +31,9 @@ answered-then Fine v r = refl
 answered-then (Refused number place) v r = refl
 
 -- The sections one after the other are the reader.
-pub image-order : (L : Limits) (few : ℕ → Verdict) (b : List ℕ) → sectionsRead L few b ≡ imageRead L few b
-unfolding imageRead sectionsRead marksSection targetsSection startSection numberSection
-image-order L few b = simp (onward-opened, onward-checked, answered-then)
+pub image-order : (alone : Bool) (F : Form) (L : Limits) (few : ℕ → Verdict) (b : List ℕ) → sectionsRead alone F L few b ≡ readOf alone F L few b
+unfolding readOf sectionsRead marksSection targetsSection startSection numberSection
+image-order alone F L few b = simp (onward-opened, onward-checked, answered-then)
 
 -- Rows that the limit allows are not above it.
 never-twelve : (L : Limits) (rows : ℕ) (v : Verdict) → andThen (rowsRule L rows) (andThen (atMost (L .rows) rows) v) ≡ andThen (rowsRule L rows) v
@@ -43,6 +44,6 @@ never-twelve L rows v = pick (outside (L .rows) rows) refl
     pick false e = rw (le-ltb (L .rows) rows (inside (L .rows) rows .0 e .1))
 
 -- So a reader that asks for no more rows than the limit never gives 12.
-pub no-twelve : (L : Limits) (b : List ℕ) → imageRead L (atMost (L .rows)) b ≡ imageRead L anyRows b
-unfolding imageRead
-no-twelve L b = rw (never-twelve L (numberAt b 0))
+pub no-twelve : (alone : Bool) (F : Form) (L : Limits) (b : List ℕ) → readOf alone F L (atMost (L .rows)) b ≡ readOf alone F L anyRows b
+unfolding readOf
+no-twelve alone F L b = rw (never-twelve L (numberAt b 0))

@@ -4,12 +4,12 @@ use mathlib.Core.Bool.{Bool, true, false}
 use mathlib.Core.List.{List, [], _∷_}
 use Prim.Native.Nat.{ℕ, _+_, _/_, _≤_, _<_}
 use native.Mathlib.Omega.{arith}
-use borrow.Author.Tests.{ltb-false}
+use borrow.Author.Tests.{ltb-false, lt-ltb, le-ltb}
 use lib.Dec.{ltb}
 use lib.ListN.{length, getD}
 use Rattle.tables.specs.Table.{markBytes}
 use Rattle.images.specs.Image.{numberAt}
-use Rattle.image_reader.specs.Read.{cutRule}
+use Rattle.image_reader.specs.Read.{cutRule, endChecks, answered}
 use Rattle.image_reader.specs.Sections.{opened, checked, onward, refusalOf, numberSection, marksSection}
 use Rattle.rules.specs.Rules.{rule, judged, outside, rowsRule, spareRule}
 use Rattle.rules.specs.declared.Limits.{Limits}
@@ -18,6 +18,7 @@ use Rattle.rules.specs.declared.Verdict.the-variants.{Fine}
 use Rattle.rules.specs.declared.Verdict.the-variants as broken
 use Rattle.rules.proofs.Checks.{unbroken, passed, inside}
 use Rattle.image_reader.specs.declared.Read.{Read}
+use Rattle.image_reader.specs.declared.Read.the-variants as read
 use Rattle.image_reader.specs.declared.Section.{Section}
 use Rattle.image_reader.specs.declared.Section.the-variants.{Got, Refused}
 
@@ -67,3 +68,10 @@ marks-got L few b rows next e = pick (numberSection b 0) e
         let c = checked-got (judged (rowsRule L r ∷ after r at)) (Got r (at + markBytes r)) rows next h in
         subst (λ (k : ℕ). 0 < k) (got-value r (at + markBytes r) rows next (c .1)) (some-row L r (after r at) (c .0))
     pick (Refused number place) h = let z : _≡_ {A = ℕ} 0 1 = cc in absurd (omega arith)
+
+-- What follows an image that stands alone.
+pub more-follows : (b : List ℕ) (end : ℕ) (r : Read) → end < length b → read.Refused 10 0 ≡ answered (judged (endChecks true b end)) r
+more-follows b end r h = rw (lt-ltb end (length b) h)
+
+pub none-follows : (b : List ℕ) (end : ℕ) (r : Read) → length b ≤ end → r ≡ answered (judged (endChecks true b end)) r
+none-follows b end r h = rw (le-ltb end (length b) h)

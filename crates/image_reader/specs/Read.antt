@@ -1,6 +1,6 @@
 -- What the image reader checks, answers and leaves in the lent cells and mark bytes.
-use mathlib.Core.Bool.{not, _||_}
-use mathlib.Core.List.{List, [], _∷_}
+use mathlib.Core.Bool.{Bool, true, false, not, _||_}
+use mathlib.Core.List.{List, [], _∷_, _++_}
 use Prim.Native.Nat.{ℕ, _+_, _*_, _/_, _%_}
 use lib.Dec.{eqb, leb, ltb}
 use lib.ListN.{length, getD}
@@ -10,7 +10,9 @@ use Rattle.rules.specs.Rules.{rule, judged, rowsRule, eventsRule, rowRule, spar
 use Rattle.rules.specs.declared.Limits.{Limits}
 use Rattle.rules.specs.declared.Verdict.{Verdict}
 use Rattle.rules.specs.declared.Verdict.the-variants.{Fine, Refused}
-use Rattle.images.specs.Image.{numberAt, cellsAt, targetsAt, startAt, marksOf, cellsOf}
+use Rattle.images.specs.Image.{numberAt, cellsAt, targetsAt, startAt, endAt, marksOf, cellsOf}
+use Rattle.images.specs.declared.Form.{Form}
+use Rattle.images.specs.declared.Form.the-variants.{Plain}
 use Rattle.image_reader.specs.declared.Read.{Read}
 use Rattle.image_reader.specs.declared.Read.the-variants as read
 
@@ -19,8 +21,10 @@ abbrev pub cutRule : List ℕ → ℕ → Verdict
 cutRule b end = rule 8 (ltb (length b) end) (length b)
 
 -- A target is no row; place: the first such.
-abbrev pub targetsRule : List ℕ → ℕ → ℕ → ℕ → Verdict
-targetsRule b rows at count = rule 5 (ltb (position (leb rows) (cellsAt b at count)) count) (position (leb rows) (cellsAt b at count))
+abbrev pub targetsRule : Form → List ℕ → ℕ → ℕ → ℕ → Verdict
+targetsRule F b rows at count =
+    let p = position (leb rows) (cellsAt F b (count / rows) at count) in
+    rule 5 (ltb p count) p
 
 -- What a reader asks of the row count besides the limits: document 01's reader nothing more, `reduce` 12 for rows above a smaller number.
 abbrev pub anyRows : ℕ → Verdict
@@ -29,9 +33,14 @@ anyRows rows = Fine
 abbrev pub atMost : ℕ → ℕ → Verdict
 atMost small rows = rule 12 (ltb small rows) 0
 
+-- 10: bytes follow the last section. It is asked of an image that stands alone, and not of one in a pack.
+abbrev pub endChecks : Bool → List ℕ → ℕ → List Verdict
+endChecks true b end = rule 10 (ltb end (length b)) 0 ∷ []
+endChecks false b end = []
+
 -- The checks in the order of the image, of the row count, target count, start count and start that stand in it.
-abbrev pub readChecks : Limits → (ℕ → Verdict) → List ℕ → ℕ → ℕ → ℕ → ℕ → List Verdict
-readChecks L few b rows count one start =
+abbrev pub readChecks : Bool → Form → Limits → (ℕ → Verdict) → List ℕ → ℕ → ℕ → ℕ → ℕ → List Verdict
+readChecks alone F L few b rows count one start =
     cutRule b 2
     ∷ rowsRule L rows
     ∷ few rows
@@ -40,27 +49,30 @@ readChecks L few b rows count one start =
     ∷ cutRule b (targetsAt rows + 2)
     ∷ rule 9 (not (eqb (count % rows) 0)) 0
     ∷ eventsRule L (count / rows)
-    ∷ cutRule b (startAt rows count)
-    ∷ targetsRule b rows (targetsAt rows + 2) count
-    ∷ cutRule b (startAt rows count + 2)
+    ∷ cutRule b (startAt F rows count)
+    ∷ targetsRule F b rows (targetsAt rows + 2) count
+    ∷ cutRule b (startAt F rows count + 2)
     ∷ rule 9 (not (eqb one 1)) 0
-    ∷ cutRule b (startAt rows count + 2 + 2)
+    ∷ cutRule b (endAt F rows count)
     ∷ rowRule rows start
-    ∷ rule 10 (ltb (startAt rows count + 2 + 2) (length b)) 0
-    ∷ []
+    ∷ endChecks alone b (endAt F rows count)
 
 abbrev pub answered : Verdict → Read → Read
 answered Fine r = r
 answered (Refused number place) r = read.Refused number place
 
 -- What the image says, if no check refuses it.
-unfoldable pub imageRead : Limits → (ℕ → Verdict) → List ℕ → Read
-imageRead L few b =
+unfoldable pub readOf : Bool → Form → Limits → (ℕ → Verdict) → List ℕ → Read
+readOf alone F L few b =
     let rows = numberAt b 0 in
     let count = numberAt b (targetsAt rows) in
-    let one = numberAt b (startAt rows count) in
-    let start = numberAt b (startAt rows count + 2) in
-    answered (judged (readChecks L few b rows count one start)) (read.Table rows (count / rows) start)
+    let one = numberAt b (startAt F rows count) in
+    let start = numberAt b (startAt F rows count + 2) in
+    answered (judged (readChecks alone F L few b rows count one start)) (read.Table rows (count / rows) start)
+
+-- Document 01's image.
+abbrev pub imageRead : Limits → (ℕ → Verdict) → List ℕ → Read
+imageRead L few b = readOf true Plain L few b
 
 -- Lastly 7: the lent cells or mark bytes are too few.
 abbrev pub roomed : Read → ℕ → ℕ → Read
@@ -68,13 +80,19 @@ roomed (read.Table rows events start) cells marks = answered (rule 7 (ltb cells 
 roomed (read.Refused number place) cells marks = read.Refused number place
 
 -- What the reader answers, with room for so many cells and mark bytes.
-unfoldable pub readBy : Limits → (ℕ → Verdict) → List ℕ → ℕ → ℕ → Read
-readBy L few b cells marks = roomed (imageRead L few b) cells marks
+abbrev pub readAs : Bool → Form → Limits → (ℕ → Verdict) → List ℕ → ℕ → ℕ → Read
+readAs alone F L few b cells marks = roomed (readOf alone F L few b) cells marks
+
+abbrev pub readBy : Limits → (ℕ → Verdict) → List ℕ → ℕ → ℕ → Read
+readBy L few b cells marks = readAs true Plain L few b cells marks
 
 -- What the reader leaves in the lent cells and mark bytes.
+abbrev pub cellsAs : Form → Read → List ℕ → List ℕ → List ℕ
+cellsAs F (read.Table rows events start) b cells = over cells 0 (cellsOf F b rows events)
+cellsAs F (read.Refused number place) b cells = cells
+
 abbrev pub cellsIn : Read → List ℕ → List ℕ → List ℕ
-cellsIn (read.Table rows events start) b cells = over cells 0 (cellsOf b rows events)
-cellsIn (read.Refused number place) b cells = cells
+cellsIn r b cells = cellsAs Plain r b cells
 
 abbrev pub marksIn : Read → List ℕ → List ℕ → List ℕ
 marksIn (read.Table rows events start) b marks = over marks 0 (marksOf b rows)

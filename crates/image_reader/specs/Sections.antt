@@ -1,5 +1,5 @@
 -- The reader section by section, as the code goes. proofs/Order.antt: it is the reader of Read.antt.
-use mathlib.Core.Bool.{not}
+use mathlib.Core.Bool.{Bool, not}
 use mathlib.Core.List.{List, [], _∷_}
 use Prim.Native.Nat.{ℕ, _+_, _*_, _/_, _%_}
 use lib.Dec.{eqb, ltb}
@@ -9,8 +9,9 @@ use Rattle.rules.specs.Rules.{rule, judged, rowsRule, eventsRule, rowRule, spar
 use Rattle.rules.specs.declared.Limits.{Limits}
 use Rattle.rules.specs.declared.Verdict.{Verdict}
 use Rattle.rules.specs.declared.Verdict.the-variants.{Fine, Refused}
-use Rattle.images.specs.Image.{numberAt}
-use Rattle.image_reader.specs.Read.{cutRule, targetsRule, answered}
+use Rattle.images.specs.Image.{width, numberAt}
+use Rattle.images.specs.declared.Form.{Form}
+use Rattle.image_reader.specs.Read.{cutRule, targetsRule, endChecks, answered}
 use Rattle.image_reader.specs.declared.Section.{Section}
 use Rattle.image_reader.specs.declared.Section.the-variants as section
 use Rattle.image_reader.specs.declared.Read.{Read}
@@ -44,19 +45,19 @@ marksSection L few b =
     checked (judged (rowsRule L rows ∷ few rows ∷ cutRule b (at + markBytes rows) ∷ spareRule rows (getD b (at + rows / 8) 0) ∷ []))
     (section.Got rows (at + markBytes rows)))
 
-unfoldable pub targetsSection : Limits → List ℕ → ℕ → ℕ → Section
-targetsSection L b rows place =
+unfoldable pub targetsSection : Form → Limits → List ℕ → ℕ → ℕ → Section
+targetsSection F L b rows place =
     opened (numberSection b place) (λ count at.
-    checked (judged (rule 9 (not (eqb (count % rows) 0)) 0 ∷ eventsRule L (count / rows) ∷ cutRule b (at + 2 * count) ∷ targetsRule b rows at count ∷ []))
-    (section.Got (count / rows) (at + 2 * count)))
+    checked (judged (rule 9 (not (eqb (count % rows) 0)) 0 ∷ eventsRule L (count / rows) ∷ cutRule b (at + width F * count) ∷ targetsRule F b rows at count ∷ []))
+    (section.Got (count / rows) (at + width F * count)))
 
 unfoldable pub startSection : List ℕ → ℕ → ℕ → Section
 startSection b rows place =
     opened (numberSection b place) (λ count at. checked (rule 9 (not (eqb count 1)) 0)
     (opened (numberSection b at) (λ start next. checked (rowRule rows start) (section.Got start next))))
 
--- The sections in order, then 10: bytes follow the last.
-unfoldable pub sectionsRead : Limits → (ℕ → Verdict) → List ℕ → Read
-sectionsRead L few b =
-    onward (marksSection L few b) (λ rows at. onward (targetsSection L b rows at) (λ events next. onward (startSection b rows next) (λ start end.
-    answered (rule 10 (ltb end (length b)) 0) (read.Table rows events start))))
+-- The sections in order; then 10, of an image that stands alone.
+unfoldable pub sectionsRead : Bool → Form → Limits → (ℕ → Verdict) → List ℕ → Read
+sectionsRead alone F L few b =
+    onward (marksSection L few b) (λ rows at. onward (targetsSection F L b rows at) (λ events next. onward (startSection b rows next) (λ start end.
+    answered (judged (endChecks alone b end)) (read.Table rows events start))))

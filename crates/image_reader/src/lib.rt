@@ -1,13 +1,17 @@
-// The image reader: each section is opened into its value and the place after it, or gives its refusal.
+// The image reader, for both forms: each section is opened into its value and the place after it, or gives its refusal.
 ghost use mathlib.Core.Path.{_≡_};
-ghost use Prim.Native.Nat.{_+_, _*_, _≤_, _<_};
+ghost use mathlib.Core.Bool.{true, false};
+ghost use Prim.Native.Nat.{ℕ, _+_, _*_, _/_, _≤_, _<_};
 ghost use lib.Dec.{leb};
 ghost use lib.ListN.{length, take, drop};
 ghost use Rattle.tables.specs.Lists.{position, over};
 ghost use Rattle.rules.specs.Rules.{winch};
-ghost use Rattle.images.specs.Image.{numberAt, cellsAt};
-ghost use Rattle.image_reader.specs.Read.{anyRows, atMost, readBy, cellsIn, marksIn};
+ghost use Rattle.images.specs.Image.{width, numberAt, targetAt, cellsAt};
+ghost use Rattle.images.specs.declared.Form.the-variants.{Radio};
+ghost use Rattle.image_reader.specs.Read.{anyRows, atMost, readOf, readAs, readBy, cellsAs, cellsIn, marksIn};
 ghost use Rattle.image_reader.specs.Sections.{numberSection, marksSection, targetsSection, startSection, refusalOf, sectionsRead};
+use images::Form;
+
 // What a section gives: its value and the place after it, or the number and place of the rule that it breaks.
 pub enum Section {
     Got(usize, usize),
@@ -75,14 +79,33 @@ fn marks_section(limits: rules::Limits, small: u16, image: &[u8]) -> Section
     Section::Got(rows, end)
 }
 
-// The place of the first target that is no row.
-fn first_outside(image: &[u8], at: usize, count: usize, rows: usize) -> usize
-    requires { ⌜ at + 2 * count ≤ length (now image) ⌝ }
-    ensures { λ r. ⌜ r ≡ position (leb rows) (cellsAt (now (image .entry)) at count) ⌝ }
+// The target of a row that stands at a place.
+fn target(form: Form, image: &[u8], row: u16, at: usize) -> usize
+    requires { ⌜ at + width form ≤ length (now image) ⌝ }
+    ensures { λ r. ⌜ r ≡ targetAt form (now (image .entry)) row at ⌝ }
 {
+    match form {
+        Form::Plain => word(image, at),
+        Form::Radio => steps::landing(row, steps::step_in(image[at])),
+    }
+}
+
+// The place of the first target that is no row.
+fn first_outside(
+    form: Form,
+    image: &[u8],
+    at: usize,
+    count: usize,
+    events: usize,
+    rows: usize,
+) -> usize
+    requires { ⌜ (0 < events) × (count ≤ 65535) × (at + width form * count ≤ length (now image)) ⌝ }
+    ensures { λ r. ⌜ r ≡ position (leb rows) (cellsAt form (now (image .entry)) events at count) ⌝ }
+{
+    let width = images::width(form);
     let mut i = 0;
     while i < count {
-        if rows <= word(image, at + 2 * i) {
+        if rows <= target(form, image, (i / events) as u16, at + width * i) {
             return i;
         }
         i += 1;
@@ -91,9 +114,15 @@ fn first_outside(image: &[u8], at: usize, count: usize, rows: usize) -> usize
 }
 
 // Targets: their count, then as many targets.
-fn targets_section(limits: rules::Limits, image: &[u8], rows: usize, place: usize) -> Section
+fn targets_section(
+    form: Form,
+    limits: rules::Limits,
+    image: &[u8],
+    rows: usize,
+    place: usize,
+) -> Section
     requires { ⌜ 0 < rows ⌝ }
-    ensures { λ r. ⌜ r ≡ targetsSection limits (now (image .entry)) rows place ⌝ }
+    ensures { λ r. ⌜ r ≡ targetsSection form limits (now (image .entry)) rows place ⌝ }
 {
     let head = number(image, place);
     let Section::Got(count, at) = head else {
@@ -106,14 +135,15 @@ fn targets_section(limits: rules::Limits, image: &[u8], rows: usize, place: usiz
     if rules::beyond(limits.events, events) {
         return Section::Refused(2, 0);
     }
-    if (image.len() - at) / 2 < count {
+    let length = images::width(form) * count;
+    if image.len() - at < length {
         return Section::Refused(8, image.len());
     }
-    let bad = first_outside(image, at, count, rows);
+    let bad = first_outside(form, image, at, count, events, rows);
     if bad < count {
         return Section::Refused(5, bad);
     }
-    Section::Got(events, at + 2 * count)
+    Section::Got(events, at + length)
 }
 
 // Start: the count 1, then the start row.
@@ -147,15 +177,15 @@ fn refusal(s: Section) -> Read
     }
 }
 
-// The sections in order, and nothing after the last.
-fn judge(limits: rules::Limits, small: u16, image: &[u8]) -> Read
-    ensures { λ r. ⌜ r ≡ sectionsRead limits (atMost small) (now (image .entry)) ⌝ }
+// The sections in order; nothing may follow the last where the image stands alone.
+fn judge(alone: bool, form: Form, limits: rules::Limits, small: u16, image: &[u8]) -> Read
+    ensures { λ r. ⌜ r ≡ sectionsRead alone form limits (atMost small) (now (image .entry)) ⌝ }
 {
     let marks = marks_section(limits, small, image);
     let Section::Got(rows, at) = marks else {
         return refusal(marks);
     };
-    let targets = targets_section(limits, image, rows, at);
+    let targets = targets_section(form, limits, image, rows, at);
     let Section::Got(events, next) = targets else {
         return refusal(targets);
     };
@@ -163,8 +193,10 @@ fn judge(limits: rules::Limits, small: u16, image: &[u8]) -> Read
     let Section::Got(start, end) = last else {
         return refusal(last);
     };
-    if end < image.len() {
-        return Read::Refused(10, 0);
+    if alone {
+        if end < image.len() {
+            return Read::Refused(10, 0);
+        }
     }
     Read::Table(rows, events, start)
 }
@@ -182,19 +214,23 @@ fn copy_marks(image: &[u8], at: usize, count: usize, marks: &mut [u8])
 }
 
 // Copies targets from a place of the image on.
-fn copy_cells(image: &[u8], at: usize, count: usize, cells: &mut [u16])
-    requires { ⌜ (at + 2 * count ≤ length (now image)) × (count ≤ length (now cells)) ⌝ }
-    ensures { λ r. ⌜ now (cells .exit) ≡ over (now (cells .entry)) 0 (cellsAt (now (image .entry)) at count) ⌝ }
+fn copy_cells(form: Form, image: &[u8], at: usize, count: usize, events: usize, cells: &mut [u16])
+    requires { ⌜ (0 < events) × (count ≤ 65535) × (at + width form * count ≤ length (now image)) × (count ≤ length (now cells)) × ((i : ℕ) → i < count → targetAt form (now image) (i / events) (at + width form * i) ≤ 65535) ⌝ }
+    ensures { λ r. ⌜ now (cells .exit) ≡ over (now (cells .entry)) 0 (cellsAt form (now (image .entry)) events at count) ⌝ }
 {
+    let width = images::width(form);
     let mut i = 0;
     while i < count {
-        cells[i] = word(image, at + 2 * i) as u16;
+        cells[i] = target(form, image, (i / events) as u16, at + width * i) as u16;
         i += 1;
     }
 }
 
-// Reads an image of a table within limits and of few enough rows into lent cells and mark bytes; nothing is written before all is judged.
-pub fn read_within(
+// Reads an image in a form, of a table within limits and of few enough rows, into lent cells and mark bytes. Where it does not stand alone, more bytes may
+// follow it. Nothing is written before all is judged.
+pub fn read_as(
+    alone: bool,
+    form: Form,
     limits: rules::Limits,
     small: u16,
     image: &[u8],
@@ -202,11 +238,11 @@ pub fn read_within(
     marks: &mut [u8],
 ) -> Read
     ensures { λ r. ⌜ (let b = now (image .entry) in let given = now (cells .entry) in let bytes = now (marks .entry) in
-        (r ≡ readBy limits (atMost small) b (length given) (length bytes))
-        × (now (cells .exit) ≡ cellsIn r b given)
+        (r ≡ readAs alone form limits (atMost small) b (length given) (length bytes))
+        × (now (cells .exit) ≡ cellsAs form r b given)
         × (now (marks .exit) ≡ marksIn r b bytes)) ⌝ }
 {
-    let judged = judge(limits, small, image);
+    let judged = judge(alone, form, limits, small, image);
     let Read::Table(rows, events, start) = judged else {
         return judged;
     };
@@ -219,8 +255,45 @@ pub fn read_within(
         return Read::Refused(7, 0);
     }
     copy_marks(image, 2, bytes, marks);
-    copy_cells(image, 4 + bytes, count, cells);
+    copy_cells(form, image, 4 + bytes, count, events, cells);
     Read::Table(rows, events, start)
+}
+
+// What the image at the front of bytes says, within the winch's limits.
+pub fn open_image(form: Form, image: &[u8]) -> Read
+    ensures { λ r. ⌜ r ≡ readOf false form winch anyRows (now (image .entry)) ⌝ }
+{
+    let limits = rules::winch();
+    let most = limits.rows;
+    judge(false, form, limits, most, image)
+}
+
+// Reads document 01's image of a table within limits and of few enough rows.
+pub fn read_within(
+    limits: rules::Limits,
+    small: u16,
+    image: &[u8],
+    cells: &mut [u16],
+    marks: &mut [u8],
+) -> Read
+    ensures { λ r. ⌜ (let b = now (image .entry) in let given = now (cells .entry) in let bytes = now (marks .entry) in
+        (r ≡ readBy limits (atMost small) b (length given) (length bytes))
+        × (now (cells .exit) ≡ cellsIn r b given)
+        × (now (marks .exit) ≡ marksIn r b bytes)) ⌝ }
+{
+    read_as(true, Form::Plain, limits, small, image, cells, marks)
+}
+
+// Reads an image in a form of any table that the winch takes.
+fn read_form(alone: bool, form: Form, image: &[u8], cells: &mut [u16], marks: &mut [u8]) -> Read
+    ensures { λ r. ⌜ (let b = now (image .entry) in let given = now (cells .entry) in let bytes = now (marks .entry) in
+        (r ≡ readAs alone form winch anyRows b (length given) (length bytes))
+        × (now (cells .exit) ≡ cellsAs form r b given)
+        × (now (marks .exit) ≡ marksIn r b bytes)) ⌝ }
+{
+    let limits = rules::winch();
+    let most = limits.rows;
+    read_as(alone, form, limits, most, image, cells, marks)
 }
 
 // Document 01's reader: an image of any table that the winch takes.
@@ -230,7 +303,15 @@ pub fn read_image(image: &[u8], cells: &mut [u16], marks: &mut [u8]) -> Read
         × (now (cells .exit) ≡ cellsIn r b given)
         × (now (marks .exit) ≡ marksIn r b bytes)) ⌝ }
 {
-    let limits = rules::winch();
-    let most = limits.rows;
-    read_within(limits, most, image, cells, marks)
+    read_form(true, Form::Plain, image, cells, marks)
+}
+
+// #102's reader: a radio image of any table that the winch takes.
+pub fn read_radio_image(image: &[u8], cells: &mut [u16], marks: &mut [u8]) -> Read
+    ensures { λ r. ⌜ (let b = now (image .entry) in let given = now (cells .entry) in let bytes = now (marks .entry) in
+        (r ≡ readAs true Radio winch anyRows b (length given) (length bytes))
+        × (now (cells .exit) ≡ cellsAs Radio r b given)
+        × (now (marks .exit) ≡ marksIn r b bytes)) ⌝ }
+{
+    read_form(true, Form::Radio, image, cells, marks)
 }

@@ -1,6 +1,6 @@
 -- An image longer than any sound one is judged by its first bytes: more of them change nothing.
 use mathlib.Core.Path.{_≡_, refl, sym, ap, _∙_}
-use mathlib.Core.Bool.{not}
+use mathlib.Core.Bool.{true, not}
 use mathlib.Core.List.{List, [], _∷_, _++_}
 use Prim.Native.Nat.{ℕ, _+_, _*_, _/_, _%_, _≤_, _<_}
 use native.Mathlib.Omega.{arith}
@@ -14,8 +14,9 @@ use Rattle.rules.specs.Rules.{rule, andThen, judged, winch, rowsRule, eventsRul
 use Rattle.rules.specs.declared.Verdict.{Verdict}
 use Rattle.rules.specs.declared.Verdict.the-variants.{Fine, Refused}
 use Rattle.rules.proofs.Checks.{unbroken, passed}
-use Rattle.images.specs.Image.{numberAt, cellsAt, targetsAt, startAt}
-use Rattle.image_reader.specs.Read.{atMost, cutRule, targetsRule, readChecks, imageRead, answered}
+use Rattle.images.specs.Image.{numberAt, cellsAt, targetsAt, startAt, endAt}
+use Rattle.images.specs.declared.Form.the-variants.{Plain}
+use Rattle.image_reader.specs.Read.{atMost, cutRule, targetsRule, readChecks, readOf, imageRead, answered}
 use Rattle.image_reader.specs.declared.Read.the-variants as read
 use Rattle.image_text.specs.ImageText.{textOf, imageText}
 use Rattle.image_text.proofs.Few.{few-targets}
@@ -58,28 +59,28 @@ module _ (b rest : List ℕ) (long : 8217 ≤ length b) where
     count-same = number-same (targetsAt rows) (omega arith)
 
     module _ (small : count ≤ 4096) where
-      one-same : numberAt c (startAt rows count) ≡ numberAt b (startAt rows count)
-      one-same = number-same (startAt rows count) (omega arith)
+      one-same : numberAt c (startAt Plain rows count) ≡ numberAt b (startAt Plain rows count)
+      one-same = number-same (startAt Plain rows count) (omega arith)
 
-      start-same : numberAt c (startAt rows count + 2) ≡ numberAt b (startAt rows count + 2)
-      start-same = number-same (startAt rows count + 2) (omega arith)
+      start-same : numberAt c (startAt Plain rows count + 2) ≡ numberAt b (startAt Plain rows count + 2)
+      start-same = number-same (startAt Plain rows count + 2) (omega arith)
 
-      cells-same : cellsAt c (targetsAt rows + 2) count ≡ cellsAt b (targetsAt rows + 2) count
+      cells-same : cellsAt Plain c (count / rows) (targetsAt rows + 2) count ≡ cellsAt Plain b (count / rows) (targetsAt rows + 2) count
       cells-same = tabulate-same count _ _ (λ i h. number-same (targetsAt rows + 2 + 2 * i) (omega arith))
 
-      too-long : (d : List ℕ) → 8217 ≤ length d → rule 10 (ltb (startAt rows count + 2 + 2) (length d)) 0 ≡ Refused 10 0
-      too-long d h = rw (lt-ltb (startAt rows count + 2 + 2) (length d) (omega arith))
+      too-long : (d : List ℕ) → 8217 ≤ length d → rule 10 (ltb (endAt Plain rows count) (length d)) 0 ≡ Refused 10 0
+      too-long d h = rw (lt-ltb (endAt Plain rows count) (length d) (omega arith))
 
   -- The checks from the targets on; those from the marks on; all of them.
   abbrev lastChecks : List ℕ → ℕ → List Verdict
   lastChecks d n =
-      cutRule d (startAt rows n)
-      ∷ targetsRule d rows (targetsAt rows + 2) n
-      ∷ cutRule d (startAt rows n + 2)
-      ∷ rule 9 (not (eqb (numberAt d (startAt rows n)) 1)) 0
-      ∷ cutRule d (startAt rows n + 2 + 2)
-      ∷ rowRule rows (numberAt d (startAt rows n + 2))
-      ∷ rule 10 (ltb (startAt rows n + 2 + 2) (length d)) 0
+      cutRule d (startAt Plain rows n)
+      ∷ targetsRule Plain d rows (targetsAt rows + 2) n
+      ∷ cutRule d (startAt Plain rows n + 2)
+      ∷ rule 9 (not (eqb (numberAt d (startAt Plain rows n)) 1)) 0
+      ∷ cutRule d (endAt Plain rows n)
+      ∷ rowRule rows (numberAt d (startAt Plain rows n + 2))
+      ∷ rule 10 (ltb (endAt Plain rows n) (length d)) 0
       ∷ []
 
   abbrev midChecks : List ℕ → ℕ → List Verdict
@@ -96,11 +97,11 @@ module _ (b rest : List ℕ) (long : 8217 ≤ length b) where
 
   last-same : (few : rows ≤ 128) → count few ≤ 4096 → judged (lastChecks c (count few)) ≡ judged (lastChecks b (count few))
   last-same few small =
-      first-same (cut-same (startAt rows (count few)) (omega arith)) (λ e₀.
+      first-same (cut-same (startAt Plain rows (count few)) (omega arith)) (λ e₀.
       first-same (ap (λ (l : List ℕ). rule 5 (ltb (position (leb rows) l) (count few)) (position (leb rows) l)) (cells-same few small)) (λ e₁.
-      first-same (cut-same (startAt rows (count few) + 2) (omega arith)) (λ e₂.
+      first-same (cut-same (startAt Plain rows (count few) + 2) (omega arith)) (λ e₂.
       first-same (ap (λ (n : ℕ). rule 9 (not (eqb n 1)) 0) (one-same few small)) (λ e₃.
-      first-same (cut-same (startAt rows (count few) + 2 + 2) (omega arith)) (λ e₄.
+      first-same (cut-same (endAt Plain rows (count few)) (omega arith)) (λ e₄.
       first-same (ap (rowRule rows) (start-same few small)) (λ e₅.
       first-same (too-long few small c (omega (arith, longer)) ∙ sym (too-long few small b long)) (λ e₆. refl)))))))
 
@@ -128,7 +129,7 @@ module _ (b rest : List ℕ) (long : 8217 ≤ length b) where
       let at = passed (allChecks b) e in
       let few : rows ≤ 128 = ltb-false 128 rows (unbroken 12 (ltb 128 rows) 0 (at 2)) in
       let small = few-targets rows (count few) (at 6) (at 7) few in
-      let end : length b ≤ startAt rows (count few) + 2 + 2 = ltb-false _ _ (unbroken 10 (ltb (startAt rows (count few) + 2 + 2) (length b)) 0 (at 14)) in
+      let end : length b ≤ endAt Plain rows (count few) = ltb-false _ _ (unbroken 10 (ltb (endAt Plain rows (count few)) (length b)) 0 (at 14)) in
       absurd (omega arith)
 
   refusal : (number : ℕ) × (place : ℕ) × (judged (allChecks b) ≡ Refused number place)
@@ -139,13 +140,13 @@ module _ (b rest : List ℕ) (long : 8217 ≤ length b) where
 
   -- It is refused, and by the same number and place with more bytes or without.
   long-refused : (imageRead winch (atMost 128) b ≡ read.Refused (refusal .0) (refusal .1)) × (imageRead winch (atMost 128) c ≡ read.Refused (refusal .0) (refusal .1))
-  unfolding imageRead
+  unfolding readOf
   long-refused = (
-    ap (λ (j : Verdict). answered j (read.Table rows (numberAt b (targetsAt rows) / rows) (numberAt b (startAt rows (numberAt b (targetsAt rows)) + 2)))) (refusal .2),
+    ap (λ (j : Verdict). answered j (read.Table rows (numberAt b (targetsAt rows) / rows) (numberAt b (startAt Plain rows (numberAt b (targetsAt rows)) + 2)))) (refusal .2),
     ap (λ (r : ℕ).
         let n = numberAt c (targetsAt r) in
-        answered (judged (readChecks winch (atMost 128) c r n (numberAt c (startAt r n)) (numberAt c (startAt r n + 2)))) (read.Table r (n / r) (numberAt c (startAt r n + 2)))) rows-same
-        ∙ ap (λ (j : Verdict). answered j (read.Table rows (numberAt c (targetsAt rows) / rows) (numberAt c (startAt rows (numberAt c (targetsAt rows)) + 2)))) (all-same ∙ refusal .2),
+        answered (judged (readChecks true Plain winch (atMost 128) c r n (numberAt c (startAt Plain r n)) (numberAt c (startAt Plain r n + 2)))) (read.Table r (n / r) (numberAt c (startAt Plain r n + 2)))) rows-same
+        ∙ ap (λ (j : Verdict). answered j (read.Table rows (numberAt c (targetsAt rows) / rows) (numberAt c (startAt Plain rows (numberAt c (targetsAt rows)) + 2)))) (all-same ∙ refusal .2),
   )
 
 -- What is printed for it does not depend on the bytes beyond the first 8,217, nor on what a table's text is.

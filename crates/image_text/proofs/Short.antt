@@ -15,8 +15,9 @@ use Rattle.rules.specs.declared.Verdict.{Verdict}
 use Rattle.rules.specs.declared.Verdict.the-variants.{Fine, Refused}
 use Rattle.rules.proofs.Checks.{unbroken, passed, all-inside}
 use Rattle.marks.specs.Marks.{spareSet}
-use Rattle.images.specs.Image.{numberAt, targetsAt, startAt, cellsAt, tableIn}
-use Rattle.image_reader.specs.Read.{cutRule, targetsRule, atMost, readChecks, imageRead, answered}
+use Rattle.images.specs.Image.{numberAt, targetsAt, startAt, endAt, cellsAt, tableIn}
+use Rattle.images.specs.declared.Form.the-variants.{Plain}
+use Rattle.image_reader.specs.Read.{cutRule, targetsRule, atMost, readChecks, readOf, answered}
 use Rattle.image_reader.specs.declared.Read.the-variants as read
 use Rattle.text.proofs.Short.{Small, refusal-short}
 use Rattle.image_text.specs.ImageText.{textOf, imageText}
@@ -45,14 +46,14 @@ little number t h = little-rule number t 0 h (λ e. omega arith)
 
 module _ (b : List ℕ) (rows count one start : ℕ) where
   abbrev checks : List Verdict
-  checks = readChecks winch (atMost 128) b rows count one start
+  checks = readChecks true Plain winch (atMost 128) b rows count one start
 
   cut : (end : ℕ) → end ≤ 10000 → Little (cutRule b end)
   cut end h = little-rule 8 (ltb (length b) end) (length b) (omega arith) (λ t. omega (arith, ltb-true (length b) end t))
 
-  target : count ≤ 4096 → Little (targetsRule b rows (targetsAt rows + 2) count)
+  target : count ≤ 4096 → Little (targetsRule Plain b rows (targetsAt rows + 2) count)
   target most =
-      let p = position (leb rows) (cellsAt b (targetsAt rows + 2) count) in
+      let p = position (leb rows) (cellsAt Plain b (count / rows) (targetsAt rows + 2) count) in
       little-rule 5 (ltb p count) p (omega arith) (λ t. omega (arith, ltb-true p count t))
 
   -- The place of 8 lies before an end that is bounded by then; that of 5 is one of the targets.
@@ -68,13 +69,13 @@ module _ (b : List ℕ) (rows count one start : ℕ) where
       little-then (little 9 (not (eqb (count % rows) 0)) (omega arith)) (λ e₆.
       little-then (little 2 (outside 32 (count / rows)) (omega arith)) (λ e₇.
       let most : count ≤ 4096 = few-targets rows count e₆ e₇ few in
-      little-then (cut (startAt rows count) (omega arith)) (λ e₈.
+      little-then (cut (startAt Plain rows count) (omega arith)) (λ e₈.
       little-then (target most) (λ e₉.
-      little-then (cut (startAt rows count + 2) (omega arith)) (λ e₁₀.
+      little-then (cut (startAt Plain rows count + 2) (omega arith)) (λ e₁₀.
       little-then (little 9 (not (eqb one 1)) (omega arith)) (λ e₁₁.
-      little-then (cut (startAt rows count + 2 + 2) (omega arith)) (λ e₁₂.
+      little-then (cut (endAt Plain rows count) (omega arith)) (λ e₁₂.
       little-then (little 4 (leb rows start) (omega arith)) (λ e₁₃.
-      little-then (little 10 (ltb (startAt rows count + 2 + 2) (length b)) (omega arith)) (λ e₁₄.
+      little-then (little 10 (ltb (endAt Plain rows count) (length b)) (omega arith)) (λ e₁₄.
       record { small = λ n p e. let z : _≡_ {A = ℕ} 0 1 = cc in absurd (omega arith) })))))))))))))))
 
 -- ---- an image
@@ -95,7 +96,7 @@ module _ (f : Table → List ℕ) (most : ℕ) (room : 20 ≤ most) (each : (T :
         omega (arith, refusal-short number place (s .0) (s .1))
     text-short Fine e =
         let at = passed (checks b rows count one start) e in
-        let cells = all-inside rows (cellsAt b (targetsAt rows + 2) count) count (tabulate-length _ _) .0 (unbroken _ _ _ (at 9)) in
+        let cells = all-inside rows (cellsAt Plain b (count / rows) (targetsAt rows + 2) count) count (tabulate-length _ _) .0 (unbroken _ _ _ (at 9)) in
         each (tableIn b rows (count / rows) start) record {
           few-rows = ltb-false 128 rows (unbroken _ _ _ (at 2));
           events-few = few-events rows count (at 6) (at 7);
@@ -105,8 +106,8 @@ module _ (f : Table → List ℕ) (most : ℕ) (room : 20 ≤ most) (each : (T :
 
   -- For every list, also one that is none of bytes.
   pub image-short : (b : List ℕ) → length (imageText f b) ≤ most
-  unfolding imageText imageRead
+  unfolding imageText readOf
   image-short b =
       let rows = numberAt b 0 in
       let count = numberAt b (targetsAt rows) in
-      text-short b rows count (numberAt b (startAt rows count)) (numberAt b (startAt rows count + 2)) _ refl
+      text-short b rows count (numberAt b (startAt Plain rows count)) (numberAt b (startAt Plain rows count + 2)) _ refl

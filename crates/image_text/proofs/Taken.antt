@@ -14,6 +14,7 @@ use Rattle.rules.specs.Rules.{winch, tableOf}
 use Rattle.rules.specs.declared.Limits.{Limits}
 use Rattle.rules.proofs.Checks.{unbroken}
 use Rattle.images.specs.Image.{marksOf, cellsOf, tableIn}
+use Rattle.images.specs.declared.Form.the-variants.{Plain}
 use Rattle.images.proofs.Numbers.{Bytes}
 use Rattle.image_reader.specs.Read.{atMost, imageRead, roomed, readBy, cellsIn, marksIn}
 use Rattle.image_reader.specs.declared.Read.{Read}
@@ -52,7 +53,6 @@ room-enough b bytes (read.Table rows events start) e =
 pub taken : {b cells marks : List ℕ} {r : Read} {L : Limits} → Bytes b → L ≡ winch
     → (r ≡ readBy L (atMost 128) b (length cells₀) (length marks₀)) × (cells ≡ cellsIn r b cells₀) × (marks ≡ marksIn r b marks₀)
     → Taken b r cells marks
-unfolding readBy
 taken {b} bytes l (e, c, m) =
     let read-as = imageRead winch (atMost 128) b in
     record {
@@ -82,13 +82,13 @@ module _ {b cells marks : List ℕ} {r : Read} (t : Taken b r cells marks) where
     pub cells-fit : rows * events ≤ 4096
     cells-fit = mul-le-mul few (valid .events-fit)
 
-    inside : 0 + length (cellsOf b rows events) ≤ length cells₀
+    inside : 0 + length (cellsOf Plain b rows events) ≤ length cells₀
     inside = omega (arith, valid .all-cells, cells-fit, length-replicate {A = ℕ} 4096 0)
 
     within : 0 + length (marksOf b rows) ≤ length marks₀
     within = omega (arith, valid .all-marks, few, length-replicate {A = ℕ} 16 0)
 
-    cells-are : cells ≡ over cells₀ 0 (cellsOf b rows events)
+    cells-are : cells ≡ over cells₀ 0 (cellsOf Plain b rows events)
     cells-are = t .cells-after ∙ ap (λ (x : Read). cellsIn x b cells₀) e
 
     marks-are : marks ≡ over marks₀ 0 (marksOf b rows)
@@ -96,7 +96,7 @@ module _ {b cells marks : List ℕ} {r : Read} (t : Taken b r cells marks) where
 
     -- Its cells and its mark bytes are the first of the buffers.
     pub cells-part : rows * events ≤ length cells
-    cells-part = omega (arith, ap length cells-are, over-length cells₀ 0 (cellsOf b rows events) inside, cells-fit, length-replicate {A = ℕ} 4096 0)
+    cells-part = omega (arith, ap length cells-are, over-length cells₀ 0 (cellsOf Plain b rows events) inside, cells-fit, length-replicate {A = ℕ} 4096 0)
 
     module _ {n : ℕ} (m : n ≡ markBytes rows) where
       pub marks-part : n ≤ length marks
@@ -104,10 +104,10 @@ module _ {b cells marks : List ℕ} {r : Read} (t : Taken b r cells marks) where
 
       taken-table : tableOf rows events start (take (rows * events) cells) (take n marks) ≡ tableIn b rows events start
       taken-table =
-          let wide : rows * events ≡ 0 + length (cellsOf b rows events) = omega (arith, valid .all-cells) in
+          let wide : rows * events ≡ 0 + length (cellsOf Plain b rows events) = omega (arith, valid .all-cells) in
           let deep : n ≡ 0 + length (marksOf b rows) = omega (arith, valid .all-marks) in
           ap₂ (tableOf rows events start)
-          (ap₂ (take {A = ℕ}) wide cells-are ∙ take-over cells₀ 0 (cellsOf b rows events) inside)
+          (ap₂ (take {A = ℕ}) wide cells-are ∙ take-over cells₀ 0 (cellsOf Plain b rows events) inside)
           (ap₂ (take {A = ℕ}) deep marks-are ∙ take-over marks₀ 0 (marksOf b rows) within)
 
       pub taken-valid : Valid (tableOf rows events start (take (rows * events) cells) (take n marks)) × (rows ≤ 128)

@@ -1,4 +1,4 @@
--- What an accepted call of the writer leaves: the image of a valid table, as many bytes as it answers.
+-- What an accepted call of the writer leaves: the image of a valid table whose targets fit its form, as many bytes as it answers.
 use mathlib.Core.Path.{_≡_, refl, sym, ap, _∙_}
 use mathlib.Core.List.{List, [], _∷_}
 use Prim.Native.Nat.{ℕ, _+_, _≤_, _<_}
@@ -8,16 +8,18 @@ use lib.ListN.{length, getD, take}
 use Rattle.tables.specs.Table.{Table, Valid}
 use Rattle.tables.specs.Lists.{over}
 use Rattle.tables.proofs.Over.{take-over}
-use Rattle.rules.specs.Rules.{andThen, judged, winch, roomRule, tableChecks}
+use Rattle.rules.specs.Rules.{andThen, judged, roomRule}
 use Rattle.rules.specs.declared.Verdict.{Verdict}
 use Rattle.rules.specs.declared.Verdict.the-variants.{Fine, Refused}
 use Rattle.rules.proofs.Checks.{unbroken}
+use Rattle.rules.proofs.First.{fine-valid}
 use Rattle.rules.proofs.Judged.{judged-append}
-use Rattle.rules.proofs.Shape.{table-valid}
-use Rattle.images.specs.Image.{image, imageLength}
+use Rattle.images.specs.Image.{imageOf, imageLength, Fits}
+use Rattle.images.specs.declared.Form.{Form}
 use Rattle.images.proofs.Image.{image-length}
-use Rattle.image_writer.specs.Write.{writeChecks, writtenBy, written, imageBy, imageIn}
+use Rattle.image_writer.specs.Write.{formChecks, imageChecks, writeChecks, writtenBy, writtenAs, imageBy, imageInAs}
 use Rattle.image_writer.specs.declared.Written.the-variants as write
+use Rattle.image_writer.proofs.Writing.{image-fine}
 
 -- The writer's checks, one after the other.
 passes : (u v : Verdict) → andThen u (andThen v Fine) ≡ Fine → (u ≡ Fine) × (v ≡ Fine)
@@ -25,23 +27,26 @@ passes Fine Fine e = (refl, refl)
 passes Fine (Refused number place) e = (refl, e)
 passes (Refused number place) v e = let z : _≡_ {A = ℕ} 0 1 = cc in absurd (omega arith)
 
-module _ (T : Table) (bytes : (i : ℕ) → getD (T .marks) i 0 < 256) (out : List ℕ) (n : ℕ) where
-  fine : (v : Verdict) → writtenBy v T ≡ write.Length n → (v ≡ Fine) × (n ≡ imageLength (T .rows) (T .events))
+module _ (F : Form) (T : Table) (bytes : (i : ℕ) → getD (T .marks) i 0 < 256) (out : List ℕ) (n : ℕ) where
+  fine : (v : Verdict) → writtenBy F v T ≡ write.Length n → (v ≡ Fine) × (n ≡ imageLength F (T .rows) (T .events))
   fine Fine e = (refl, cc)
   fine (Refused number place) e = let z : _≡_ {A = ℕ} 0 1 = cc in absurd (omega arith)
 
-  -- A written image is that of a valid table, and nothing beyond it is touched.
-  pub written-image : written T (length out) ≡ write.Length n → Valid T × (take n (imageIn T out) ≡ image T)
-  unfolding written imageIn
+  -- A written image is that of a valid table whose targets fit, and nothing beyond it is touched.
+  pub written-image : writtenAs F T (length out) ≡ write.Length n → Valid T × Fits F T × (take n (imageInAs F T out) ≡ imageOf F T)
+  unfolding writtenAs imageInAs
   written-image e =
       let room : ℕ = length out in
-      let f = fine (judged (writeChecks T room)) e in
-      let p = passes (judged (tableChecks winch T)) (roomRule (imageLength (T .rows) (T .events)) room)
-      (sym (judged-append (tableChecks winch T) (roomRule (imageLength (T .rows) (T .events)) room ∷ [])) ∙ f .0) in
-      let v = table-valid T bytes .0 (p .0) in
-      let fits : imageLength (T .rows) (T .events) ≤ room = ltb-false _ _ (unbroken _ _ _ (p .1)) in
-      let same : n ≡ 0 + length (image T) = omega (arith, f .1, image-length T v) in (
+      let f = fine (judged (writeChecks F T room)) e in
+      let p = passes (judged (imageChecks F T)) (roomRule (imageLength F (T .rows) (T .events)) room)
+      (sym (judged-append (imageChecks F T) (roomRule (imageLength F (T .rows) (T .events)) room ∷ [])) ∙ f .0) in
+      let v = fine-valid T (formChecks F (T .events) (T .cells)) (p .0) bytes in
+      let fit = image-fine F T (p .0) .1 in
+      let fits : imageLength F (T .rows) (T .events) ≤ room = ltb-false _ _ (unbroken _ _ _ (p .1)) in
+      let long = image-length F T v fit in
+      let same : n ≡ 0 + length (imageOf F T) = omega (arith, f .1, long) in (
         v,
-        ap (λ (u : Verdict). take n (imageBy u T out)) (f .0) ∙ ap (λ (k : ℕ). take k (over out 0 (image T))) same
-            ∙ take-over out 0 (image T) (omega (arith, image-length T v)),
+        fit,
+        ap (λ (u : Verdict). take n (imageBy F u T out)) (f .0) ∙ ap (λ (k : ℕ). take k (over out 0 (imageOf F T))) same
+            ∙ take-over out 0 (imageOf F T) (omega (arith, long)),
       )

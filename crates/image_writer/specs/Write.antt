@@ -1,32 +1,60 @@
 -- What the image writer checks, answers and leaves in the lent bytes.
 use mathlib.Core.List.{List, [], _∷_, _++_}
-use Prim.Native.Nat.{ℕ}
-use lib.ListN.{length}
+use Prim.Native.Nat.{ℕ, _/_}
+use lib.Dec.{ltb}
+use lib.ListN.{length, getD}
+use Rattle.steps.specs.Steps.{stepOf}
 use Rattle.tables.specs.Table.{Table}
-use Rattle.tables.specs.Lists.{over}
-use Rattle.rules.specs.Rules.{judged, winch, roomRule, tableChecks}
+use Rattle.tables.specs.Lists.{tabulate, position, over}
+use Rattle.rules.specs.Rules.{rule, judged, winch, roomRule, tableChecks}
 use Rattle.rules.specs.declared.Verdict.{Verdict}
 use Rattle.rules.specs.declared.Verdict.the-variants.{Fine, Refused}
-use Rattle.images.specs.Image.{image, imageLength}
+use Rattle.images.specs.Image.{far, imageOf, imageLength}
+use Rattle.images.specs.declared.Form.{Form}
+use Rattle.images.specs.declared.Form.the-variants.{Plain, Radio}
 use Rattle.image_writer.specs.declared.Written.{Written}
 use Rattle.image_writer.specs.declared.Written.the-variants as write
 
--- Rules 1 to 7, in number order.
-abbrev pub writeChecks : Table → ℕ → List Verdict
-writeChecks T room = tableChecks winch T ++ (roomRule (imageLength (T .rows) (T .events)) room ∷ [])
+-- The place of the first cell whose step is too far; cell i belongs to row i / events.
+abbrev pub firstFar : ℕ → List ℕ → ℕ
+firstFar events cells = position (λ i. far (stepOf (i / events) (getD cells i 0))) (tabulate (length cells) (λ i. i))
 
-abbrev pub writtenBy : Verdict → Table → Written
-writtenBy Fine T = write.Length (imageLength (T .rows) (T .events))
-writtenBy (Refused number place) T = write.Refused number place
+-- 14: a step is outside −128 to 127; place: the first such cell.
+abbrev pub stepsRule : ℕ → List ℕ → Verdict
+stepsRule events cells = rule 14 (ltb (firstFar events cells) (length cells)) (firstFar events cells)
+
+-- What a form asks of the targets.
+abbrev pub formChecks : Form → ℕ → List ℕ → List Verdict
+formChecks Plain events cells = []
+formChecks Radio events cells = stepsRule events cells ∷ []
+
+-- Rules 1 to 6, and 14 for a radio image.
+abbrev pub imageChecks : Form → Table → List Verdict
+imageChecks F T = tableChecks winch T ++ formChecks F (T .events) (T .cells)
+
+-- These, and then 7.
+abbrev pub writeChecks : Form → Table → ℕ → List Verdict
+writeChecks F T room = imageChecks F T ++ (roomRule (imageLength F (T .rows) (T .events)) room ∷ [])
+
+abbrev pub writtenBy : Form → Verdict → Table → Written
+writtenBy F Fine T = write.Length (imageLength F (T .rows) (T .events))
+writtenBy F (Refused number place) T = write.Refused number place
 
 -- What the writer answers, with room for so many bytes.
-unfoldable pub written : Table → ℕ → Written
-written T room = writtenBy (judged (writeChecks T room)) T
+unfoldable pub writtenAs : Form → Table → ℕ → Written
+writtenAs F T room = writtenBy F (judged (writeChecks F T room)) T
 
-abbrev pub imageBy : Verdict → Table → List ℕ → List ℕ
-imageBy Fine T out = over out 0 (image T)
-imageBy (Refused number place) T out = out
+abbrev pub imageBy : Form → Verdict → Table → List ℕ → List ℕ
+imageBy F Fine T out = over out 0 (imageOf F T)
+imageBy F (Refused number place) T out = out
 
 -- What it leaves in the lent bytes.
-unfoldable pub imageIn : Table → List ℕ → List ℕ
-imageIn T out = imageBy (judged (writeChecks T (length out))) T out
+unfoldable pub imageInAs : Form → Table → List ℕ → List ℕ
+imageInAs F T out = imageBy F (judged (writeChecks F T (length out))) T out
+
+-- Document 01's image writer: rules 1 to 7, in number order.
+abbrev pub written : Table → ℕ → Written
+written T room = writtenAs Plain T room
+
+abbrev pub imageIn : Table → List ℕ → List ℕ
+imageIn T out = imageInAs Plain T out

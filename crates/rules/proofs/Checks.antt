@@ -6,7 +6,7 @@ use mathlib.Core.Logic.{_↔_, ⊎-elim}
 use Prim.Native.Nat.{ℕ, zero, suc, _≤_, _<_}
 use native.Mathlib.Omega.{arith}
 use lib.Dec.{eqb, leb, ltb}
-use lib.ListN.{length, getD}
+use lib.ListN.{length, getD, drop}
 use borrow.Author.Tests.{eqb-false, leb-false, ltb-false, ne-eqb, lt-leb, le-ltb}
 use Rattle.automata.proofs.Tests.{either, clash}
 use Rattle.tables.specs.Lists.{position}
@@ -29,6 +29,13 @@ passed (Fine ∷ l) e zero = refl
 passed (Fine ∷ l) e (suc i) = passed l e i
 passed (Refused number place ∷ l) e i = refused e
 
+-- So do those behind the first n.
+pub passed-behind : (n : ℕ) (l : List Verdict) → judged l ≡ Fine → judged (drop n l) ≡ Fine
+passed-behind zero l e = e
+passed-behind (suc n) [] e = refl
+passed-behind (suc n) (Fine ∷ l) e = passed-behind n l e
+passed-behind (suc n) (Refused number place ∷ l) e = refused e
+
 pub neither : (a b : Bool) → (a || b) ≡ false → (a ≡ false) × (b ≡ false)
 neither true b e = clash refl e
 neither false b e = (refl, e)
@@ -39,9 +46,15 @@ inside most n = (
   λ h. rw (ne-eqb n 0 (omega arith)) (le-ltb most n (h .1)),
 )
 
+-- No member passes the test.
+pub none-passes : (f : ℕ → Bool) (l : List ℕ) (n : ℕ) → length l ≡ n → (ltb (position f l) n ≡ false) ↔ ((i : ℕ) → i < n → f (getD l i 0) ≡ false)
+none-passes f l n len = (
+  λ e i h. ⊎-elim (λ t. absurd (omega (arith, ltb-false _ n e, position-in f l _ (at-mem l i 0 (omega arith)) t))) (λ t. t) (either (f (getD l i 0))),
+  λ h. le-ltb _ n (omega (arith, position-is f l n 0 (omega arith) h (λ g. absurd (omega arith)))),
+)
+
 -- No member is outside.
 pub all-inside : (rows : ℕ) (l : List ℕ) (n : ℕ) → length l ≡ n → (ltb (position (leb rows) l) n ≡ false) ↔ ((i : ℕ) → i < n → getD l i 0 < rows)
-all-inside rows l n len = (
-  λ e i h. ⊎-elim (λ t. absurd (omega (arith, ltb-false _ n e, position-in (leb rows) l _ (at-mem l i 0 (omega arith)) t))) (leb-false rows _) (either (leb rows (getD l i 0))),
-  λ h. le-ltb _ n (omega (arith, position-is (leb rows) l n 0 (omega arith) (λ j g. lt-leb rows _ (h j g)) (λ g. absurd (omega arith)))),
-)
+all-inside rows l n len =
+    let p = none-passes (leb rows) l n len in
+    (λ e i h. leb-false rows _ (p .0 e i h), λ h. p .1 (λ i g. lt-leb rows _ (h i g)))

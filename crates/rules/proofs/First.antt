@@ -11,7 +11,7 @@ use Rattle.rules.specs.declared.Limits.{Limits}
 use Rattle.rules.specs.declared.Verdict.{Verdict}
 use Rattle.rules.specs.declared.Verdict.the-variants.{Fine, Refused}
 use Rattle.rules.proofs.Judged.{judged-append, refused-first, fine-first}
-use Rattle.rules.proofs.Shape.{table-fine, table-valid}
+use Rattle.rules.proofs.Shape.{Shape, table-fine, table-valid}
 
 -- Rule 7, of one buffer.
 pub room-broken : (needed given : ℕ) → given < needed → roomRule needed given ≡ Refused 7 0
@@ -32,11 +32,14 @@ module _ (T : Table) {L : Limits} {v : Verdict} (l : L ≡ winch) (e : v ≡ jud
     pub table-then : (more : List Verdict) {u : Verdict} → u ≡ judged more → u ≡ judged (tableChecks winch T ++ more)
     table-then more g = g ∙ fine-first (tableChecks winch T) more v of-table h
 
+    pub table-shape : Shape winch T
+    table-shape = table-fine winch T (sym of-table ∙ h) .0
+
     pub few-rows : T .rows ≤ 1024
-    few-rows = table-fine winch T (sym of-table ∙ h) .0 .rows-fit
+    few-rows = table-shape .rows-fit
 
     pub few-events : T .events ≤ 32
-    few-events = table-fine winch T (sym of-table ∙ h) .0 .events-fit
+    few-events = table-shape .events-fit
 
 both-fine : (u v : Verdict) → andThen u v ≡ Fine → (u ≡ Fine) × (v ≡ Fine)
 both-fine Fine v e = (refl, e)
@@ -44,7 +47,7 @@ both-fine (Refused number place) v e = let z : _≡_ {A = ℕ} 0 1 = cc in absur
 
 -- What it tells that none of them is broken.
 module _ (T : Table) (more : List Verdict) (e : judged (tableChecks winch T ++ more) ≡ Fine) where
-  parts : (judged (tableChecks winch T) ≡ Fine) × (judged more ≡ Fine)
+  pub parts : (judged (tableChecks winch T) ≡ Fine) × (judged more ≡ Fine)
   parts = both-fine (judged (tableChecks winch T)) (judged more) (sym (judged-append (tableChecks winch T) more) ∙ e)
 
   pub more-fine : judged more ≡ Fine

@@ -299,6 +299,12 @@ module _ (f : ℕ → Bool) where
       pick true e g = clash refl e
       pick false e g = ap suc g
 
+-- Of f 0, f 1, .. the first that passes.
+pub tabulate-position : (f : ℕ → Bool) (n : ℕ) (h : ℕ → ℕ) (i : ℕ) → i ≤ n → ((j : ℕ) → j < i → f (h j) ≡ false) → (i < n → f (h i) ≡ true) → position f (tabulate n h) ≡ i
+tabulate-position f n h i le before here =
+    let len = tabulate-length n h in
+    position-is f (tabulate n h) i 0 (omega arith) (λ j g. ap f (tabulate-at n h j 0 (omega arith)) ∙ before j g) (λ g. ap f (tabulate-at n h i 0 (omega arith)) ∙ here (omega arith))
+
 pub place-in : (x : ℕ) (l : List ℕ) → Mem x l → place x l < length l
 place-in x l h = position-in (eqb x) l x h (eq-eqb x x refl)
 

@@ -1,8 +1,9 @@
 use mathlib.Core.Path.{sym, _∙_}
-use borrow.Author.Tests.{lt-ltb, le-ltb}
+use Rattle.image_reader.specs.declared.Read.the-variants.{Table}
 use Rattle.image_reader.specs.Read.{atMost}
 use Rattle.image_reader.specs.Sections.{sectionsRead}
-use Rattle.image_reader.proofs.Sections.{refuses-read, marks-got}
+use Rattle.image_reader.proofs.Sections.{refuses-read, marks-got, more-follows, none-follows}
+use native.Mathlib.Omega.{arith}
 use borrow.Author.Needs.{needs}
 use Rattle.image_reader.proofs.judge.Statement.{statement}
 use Rattle.image_reader.proofs.judge.Tie as tie
@@ -26,11 +27,15 @@ returns-3 c = simp (sym (c .before .before .before .before .before .before .befo
 
 returns-4 : tie.Need-returns-4
 unfolding sectionsRead
-returns-4 c = simp (sym (c .before .before .before .before .before .before .before .before .before .before .before .before .marks-section .ensures) ∙ c .before .before .before .before .before .before .before .before .before .before .marks .given .1, sym (c .before .before .before .before .before .before .before .before .targets-section .ensures) ∙ c .before .before .before .before .before .before .targets .given .1, sym (c .before .before .before .before .start-section .ensures) ∙ c .before .before .last .given .1, lt-ltb _ _ (c .if1 .taken))
+returns-4 c = simp (sym (c .before .before .before .before .before .before .before .before .before .before .before .before .before .marks-section .ensures) ∙ c .before .before .before .before .before .before .before .before .before .before .before .marks .given .1, sym (c .before .before .before .before .before .before .before .before .before .targets-section .ensures) ∙ c .before .before .before .before .before .before .before .targets .given .1, sym (c .before .before .before .before .before .start-section .ensures) ∙ c .before .before .before .last .given .1, c .before .if1 .taken) (more-follows (c .before .before .before .before .before .before .before .before .before .before .before .before .before .before .before .args .image .now) _ (Table (c .before .before .before .before .before .before .before .before .before .before .before .marks .given .0 .0) (c .before .before .before .before .before .before .before .targets .given .0 .0) (c .before .before .before .last .given .0 .0)) (c .if2 .taken))
 
 returns-5 : tie.Need-returns-5
 unfolding sectionsRead
-returns-5 c = simp (sym (c .before .before .before .before .before .before .before .before .before .before .before .before .marks-section .ensures) ∙ c .before .before .before .before .before .before .before .before .before .before .marks .given .1, sym (c .before .before .before .before .before .before .before .before .targets-section .ensures) ∙ c .before .before .before .before .before .before .targets .given .1, sym (c .before .before .before .before .start-section .ensures) ∙ c .before .before .last .given .1, le-ltb _ _ (c .if1 .left))
+returns-5 c = simp (sym (c .before .before .before .before .before .before .before .before .before .before .before .before .before .marks-section .ensures) ∙ c .before .before .before .before .before .before .before .before .before .before .before .marks .given .1, sym (c .before .before .before .before .before .before .before .before .before .targets-section .ensures) ∙ c .before .before .before .before .before .before .before .targets .given .1, sym (c .before .before .before .before .before .start-section .ensures) ∙ c .before .before .before .last .given .1, c .before .if1 .taken) (none-follows (c .before .before .before .before .before .before .before .before .before .before .before .before .before .before .before .args .image .now) _ (Table (c .before .before .before .before .before .before .before .before .before .before .before .marks .given .0 .0) (c .before .before .before .before .before .before .before .targets .given .0 .0) (c .before .before .before .last .given .0 .0)) (c .if2 .left))
+
+returns-6 : tie.Need-returns-6
+unfolding sectionsRead
+returns-6 c = simp (sym (c .before .before .before .before .before .before .before .before .before .before .before .before .marks-section .ensures) ∙ c .before .before .before .before .before .before .before .before .before .before .marks .given .1, sym (c .before .before .before .before .before .before .before .before .targets-section .ensures) ∙ c .before .before .before .before .before .before .targets .given .1, sym (c .before .before .before .before .start-section .ensures) ∙ c .before .before .last .given .1, c .if1 .left)
 
 pub judge-spec : {M : Type 1} → statement M
 judge-spec =
@@ -52,4 +57,5 @@ judge-spec =
     (λ c κs. search needs)
     returns-3
     returns-4
-    returns-5)
+    returns-5
+    returns-6)
