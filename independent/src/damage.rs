@@ -2,8 +2,10 @@
 //! comparison of what is printed for them.
 //!
 //! An input of `reduce` is a head of two bytes, the offset, and an image; an
-//! input of `sheet` is an image alone, so its head is empty.
+//! input of `sheet` is an image alone, so its head is empty. So is a radio image's;
+//! a pack's head is its count.
 
+use crate::calls::{own_image, own_pack};
 use crate::judge::hexadecimal;
 use crate::parallel::spread;
 use crate::product::Program;
@@ -32,10 +34,10 @@ pub fn same(program: Program, input: &[u8], expected: &str) -> Result<usize, Str
 
 /// Counts answers by refusal number.
 #[derive(Default)]
-pub struct Answers(Mutex<[usize; 13]>);
+pub struct Answers(Mutex<[usize; 16]>);
 
 impl Answers {
-    /// Counts an answer of [`same`]; stops at a fault.
+    /// Counts an answer, as of [`same`]; stops at a fault.
     pub fn count(&self, answer: Result<usize, String>) {
         match answer {
             Ok(number) => self.0.lock().unwrap()[number] += 1,
@@ -60,39 +62,51 @@ impl Answers {
     }
 }
 
-/// The inputs of a program.
+/// The inputs of a program, or of a reader of request 102.
 #[derive(Clone, Copy)]
 pub enum Inputs {
     /// An offset and an image.
     OfReduce,
     /// An image.
     OfSheet,
+    /// A radio image.
+    OfRadio,
+    /// A count and radio images.
+    OfPack,
 }
 
 impl Inputs {
-    /// The length of the head.
-    fn head(self) -> usize {
+    /// A head for one image: offset 0, or count 1.
+    fn plain_head(self) -> &'static [u8] {
         match self {
-            Inputs::OfReduce => 2,
-            Inputs::OfSheet => 0,
+            Inputs::OfReduce => &[0, 0],
+            Inputs::OfSheet | Inputs::OfRadio => &[],
+            Inputs::OfPack => &[1, 0],
         }
     }
 
-    /// A program's input for a table; `sheet` is told no offset.
+    /// The length of the head.
+    fn head(self) -> usize {
+        self.plain_head().len()
+    }
+
+    /// An input for a table; only `reduce` is told an offset.
     fn of(self, table: &Table, offset: Offset) -> Vec<u8> {
         match self {
             Inputs::OfReduce => table.input(offset),
             Inputs::OfSheet => table.image(),
+            Inputs::OfRadio => own_image(table),
+            Inputs::OfPack => own_pack(&[table]),
         }
     }
 
-    /// Eight sound inputs, to be damaged.
+    /// Sound inputs, to be damaged: of eight tables, or five packs of these.
     fn sound(self) -> Vec<Vec<u8>> {
         let mut random = Random::new(50_000);
         let a = Table::new(1, 0, &[1, 2, 2], &[true, false, false]);
         let e = Table::new(2, 0, &[0, 0], &[false]);
         let d = Table::new(2, 3, &[1, 2, 0, 0, 0, 0, 0, 0], &[false, true, false, false]);
-        let mut list = vec![self.of(&a, Some(0)), self.of(&e, Some(3)), self.of(&d, Some(1))];
+        let mut list = vec![(a, Some(0)), (e, Some(3)), (d, Some(1))];
         for (shape, rows, events) in [
             (Shape::Free, 8, 1),
             (Shape::Chain, 9, 2),
@@ -100,9 +114,16 @@ impl Inputs {
             (Shape::Copies, 16, 2),
             (Shape::Layers, 17, 1),
         ] {
-            list.push(self.of(&table(&mut random, shape, rows, events), None));
+            list.push((table(&mut random, shape, rows, events), None));
         }
-        list
+        if let Inputs::OfPack = self {
+            let choices: [&[usize]; 5] =
+                [&[0], &[1, 0], &[4, 1, 2], &[0, 1, 2, 3, 4, 5, 6, 7], &[1; 16]];
+            return choices
+                .map(|choice| own_pack(&choice.iter().map(|&n| &list[n].0).collect::<Vec<_>>()))
+                .to_vec();
+        }
+        list.iter().map(|(table, offset)| self.of(table, *offset)).collect()
     }
 
     /// Each single byte of the sound inputs set to each value.
@@ -138,8 +159,22 @@ impl Inputs {
         }
     }
 
-    /// The largest image, 128 rows and 32 events, 8,216 bytes: cut at each
-    /// length, each target made no row, and other bytes changed.
+    /// The sound inputs with a byte more, and each byte of the image wrong.
+    pub fn wrong_and_extended(self, test: impl Fn(&[u8])) {
+        for input in self.sound() {
+            for place in self.head()..input.len() {
+                for value in [0, 9, 255] {
+                    let mut changed = input.clone();
+                    changed[place] = value;
+                    changed.push(0);
+                    test(&changed);
+                }
+            }
+        }
+    }
+
+    /// The largest image for a program, 128 rows and 32 events, 8,216 bytes: cut
+    /// at each length, each target made no row, and other bytes changed.
     pub fn largest(self, test: impl Fn(&[u8]) + Sync) {
         let mut random = Random::new(51_000);
         let input = self.of(&table(&mut random, Shape::Falling, 128, 32), Some(9));
@@ -192,7 +227,7 @@ impl Inputs {
 
     /// Random bytes, and all inputs of a few bytes.
     pub fn random_bytes(self, test: impl Fn(&[u8]) + Sync) {
-        let behind_head = |image: &[u8]| test(&[&[0, 0][..self.head()], image].concat());
+        let behind_head = |image: &[u8]| test(&[self.plain_head(), image].concat());
         // All inputs of up to two bytes, and all row counts with nothing after.
         test(&[]);
         for low in 0..=255u8 {
@@ -226,23 +261,10 @@ impl Inputs {
             // Bytes made section by section, so that later sections are reached.
             for _ in 0..500 {
                 let mut input = [random.below(9) as u8, 0][..self.head()].to_vec();
-                let rows = random.between(1, 9);
-                input.extend([rows as u8, 0]);
-                for byte in 0..rows.div_ceil(8) {
-                    let spare = if byte == rows / 8 { 1usize << (rows % 8) } else { 256 };
-                    let odd = random.chance(1, 20);
-                    input.push(random.below(if odd { 256 } else { spare }) as u8);
+                let images = if let Inputs::OfPack = self { input[0] } else { 1 };
+                for _ in 0..images {
+                    self.push_sections(&mut random, &mut input);
                 }
-                let events = random.below(5);
-                let count = rows * events + random.chance(1, 20) as usize;
-                input.extend([count as u8, 0]);
-                for _ in 0..count {
-                    let bound = rows + random.chance(1, 30) as usize;
-                    input.extend([random.below(bound) as u8, 0]);
-                }
-                input.extend([1 + random.chance(1, 10) as u8, 0]);
-                let bound = rows + random.chance(1, 10) as usize;
-                input.extend([random.below(bound) as u8, 0]);
                 if random.chance(1, 10) {
                     input.push(0);
                 }
@@ -252,6 +274,32 @@ impl Inputs {
                 test(&input);
             }
         });
+    }
+
+    /// The sections of an image, now and then with something wrong in them.
+    fn push_sections(self, random: &mut Random, input: &mut Vec<u8>) {
+        let rows = random.between(1, 9);
+        input.extend([rows as u8, 0]);
+        for byte in 0..rows.div_ceil(8) {
+            let spare = if byte == rows / 8 { 1usize << (rows % 8) } else { 256 };
+            let odd = random.chance(1, 20);
+            input.push(random.below(if odd { 256 } else { spare }) as u8);
+        }
+        let events = random.below(5);
+        let count = rows * events + random.chance(1, 20) as usize;
+        input.extend([count as u8, 0]);
+        for cell in 0..count {
+            let bound = rows + random.chance(1, 30) as usize;
+            let target = random.below(bound) as u8;
+            match self {
+                Inputs::OfReduce | Inputs::OfSheet => input.extend([target, 0]),
+                _ if random.chance(1, 100) => input.push(random.below(256) as u8),
+                _ => input.push(target.wrapping_sub((cell / events.max(1)) as u8)),
+            }
+        }
+        input.extend([1 + random.chance(1, 10) as u8, 0]);
+        let bound = rows + random.chance(1, 10) as usize;
+        input.extend([random.below(bound) as u8, 0]);
     }
 
     /// Inputs as long as the largest image and longer.
@@ -284,6 +332,7 @@ impl Inputs {
             }
             for rows in [128usize, 129, 1024, 1025, 65_535] {
                 let mut bytes = vec![0; length];
+                bytes[..self.head()].copy_from_slice(self.plain_head());
                 bytes[self.head()] = (rows % 256) as u8;
                 bytes[self.head() + 1] = (rows / 256) as u8;
                 test(&bytes);

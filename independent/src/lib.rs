@@ -1,11 +1,15 @@
 //! An independent reading of document 01 ("Ready tables and their
-//! reduction"), made to be compared with the product.
+//! reduction") and of requests 101 and 102, made to be compared with the
+//! product.
 
+pub mod calls;
 pub mod cutter;
 pub mod damage;
+pub mod faulty;
 pub mod judge;
 pub mod parallel;
 pub mod product;
+pub mod radio;
 pub mod random;
 pub mod rules;
 pub mod shapes;

@@ -1,6 +1,8 @@
-//! The product, called through its two C functions.
+//! The product, called through its six C functions.
 
-use std::sync::Mutex;
+use crate::radio::{Answer, Functions};
+use std::fmt::Debug;
+use std::sync::{Mutex, MutexGuard};
 
 /// Something that prints a text for an input, as `reduce` and `sheet` do.
 pub type Program<'a> = &'a (dyn Fn(&[u8]) -> Vec<u8> + Sync);
@@ -12,6 +14,56 @@ type Function = unsafe extern "C" fn(*const u8, usize, *mut u8, usize) -> usize;
 extern "C" {
     fn gelfost_reduce_text(i: *const u8, il: usize, o: *mut u8, ol: usize) -> usize;
     fn gelfost_sheet_text(i: *const u8, il: usize, o: *mut u8, ol: usize) -> usize;
+    fn gelfost_write_radio(
+        rows: usize,
+        events: usize,
+        start: usize,
+        cells: *const u16,
+        cells_len: usize,
+        marks: *const u8,
+        marks_len: usize,
+        out: *mut u8,
+        out_len: usize,
+        answer: *mut usize,
+    );
+    fn gelfost_read_radio(
+        image: *const u8,
+        image_len: usize,
+        cells: *mut u16,
+        cells_len: usize,
+        marks: *mut u8,
+        marks_len: usize,
+        answer: *mut usize,
+    );
+    fn gelfost_write_pack(
+        list: *const u16,
+        list_len: usize,
+        cells: *const u16,
+        cells_len: usize,
+        marks: *const u8,
+        marks_len: usize,
+        out: *mut u8,
+        out_len: usize,
+        answer: *mut usize,
+    );
+    fn gelfost_read_pack(
+        pack: *const u8,
+        pack_len: usize,
+        list: *mut u16,
+        list_len: usize,
+        cells: *mut u16,
+        cells_len: usize,
+        marks: *mut u8,
+        marks_len: usize,
+        answer: *mut usize,
+    );
+}
+
+/// One call at a time: nothing says that the functions may be called twice at
+/// once.
+fn turn() -> MutexGuard<'static, ()> {
+    static ONE_AT_A_TIME: Mutex<()> = Mutex::new(());
+    ONE_AT_A_TIME.lock().unwrap_or_else(|poisoned| poisoned.into_inner())
 }
 
 /// The product's text of `reduce` for an input.
@@ -30,14 +82,11 @@ fn text(function: Function, input: &[u8]) -> Vec<u8> {
     /// Bytes behind the lent output, which the product must leave alone.
     const GUARD: usize = 256;
     const FILL: u8 = 0xA5;
-    // One call at a time: nothing says that the functions may be called twice
-    // at once.
-    static ONE_AT_A_TIME: Mutex<()> = Mutex::new(());
 
     let mut output = vec![FILL; OUTPUT + GUARD];
     let before = input.to_vec();
     let length = {
-        let _turn = ONE_AT_A_TIME.lock().unwrap_or_else(|poisoned| poisoned.into_inner());
+        let _turn = turn();
         unsafe { function(input.as_ptr(), input.len(), output.as_mut_ptr(), OUTPUT) }
     };
     assert!(length <= OUTPUT, "the product says it printed {length} bytes");
@@ -45,4 +94,212 @@ fn text(function: Function, input: &[u8]) -> Vec<u8> {
     assert!(before == input, "the product changed its input");
     output.truncate(length);
     output
+}
+
+/// The product's functions of request 102. Everything is handed to it in copies
+/// with guards; so is the answer, whose four numbers hold a pattern before: one
+/// that is not written is seen.
+pub struct Product;
+
+impl Functions for Product {
+    fn write_radio(
+        &self,
+        rows: usize,
+        events: usize,
+        start: usize,
+        cells: &[u16],
+        marks: &[u8],
+        out: &mut [u8],
+    ) -> Answer {
+        let (mut c, mut m, mut o) = (Guarded::of(cells), Guarded::of(marks), Guarded::of(out));
+        let mut answer = [usize::FILL; 4];
+        let mut a = Guarded::of(&answer);
+        let turn = turn();
+        unsafe {
+            gelfost_write_radio(
+                rows,
+                events,
+                start,
+                c.pointer(),
+                cells.len(),
+                m.pointer(),
+                marks.len(),
+                o.pointer(),
+                out.len(),
+                a.pointer(),
+            )
+        }
+        drop(turn);
+        held(
+            [c.unchanged(cells), m.unchanged(marks), o.back(out), a.back(&mut answer)],
+            &[&(rows, events, start), &cells, &marks, &out.len()],
+        );
+        answer
+    }
+
+    fn read_radio(&self, image: &[u8], cells: &mut [u16], marks: &mut [u8]) -> Answer {
+        let (mut i, mut c, mut m) = (Guarded::of(image), Guarded::of(cells), Guarded::of(marks));
+        let mut answer = [usize::FILL; 4];
+        let mut a = Guarded::of(&answer);
+        let turn = turn();
+        unsafe {
+            gelfost_read_radio(
+                i.pointer(),
+                image.len(),
+                c.pointer(),
+                cells.len(),
+                m.pointer(),
+                marks.len(),
+                a.pointer(),
+            )
+        }
+        drop(turn);
+        held(
+            [i.unchanged(image), c.back(cells), m.back(marks), a.back(&mut answer)],
+            &[&image, &cells.len(), &marks.len()],
+        );
+        answer
+    }
+
+    fn write_pack(&self, list: &[u16], cells: &[u16], marks: &[u8], out: &mut [u8]) -> Answer {
+        let (mut l, mut c) = (Guarded::of(list), Guarded::of(cells));
+        let (mut m, mut o) = (Guarded::of(marks), Guarded::of(out));
+        let mut answer = [usize::FILL; 4];
+        let mut a = Guarded::of(&answer);
+        let turn = turn();
+        unsafe {
+            gelfost_write_pack(
+                l.pointer(),
+                list.len(),
+                c.pointer(),
+                cells.len(),
+                m.pointer(),
+                marks.len(),
+                o.pointer(),
+                out.len(),
+                a.pointer(),
+            )
+        }
+        drop(turn);
+        held(
+            [
+                l.unchanged(list),
+                c.unchanged(cells),
+                m.unchanged(marks),
+                o.back(out),
+                a.back(&mut answer),
+            ],
+            &[&list, &cells, &marks, &out.len()],
+        );
+        answer
+    }
+
+    fn read_pack(
+        &self,
+        pack: &[u8],
+        list: &mut [u16],
+        cells: &mut [u16],
+        marks: &mut [u8],
+    ) -> Answer {
+        let (mut p, mut l) = (Guarded::of(pack), Guarded::of(list));
+        let (mut c, mut m) = (Guarded::of(cells), Guarded::of(marks));
+        let mut answer = [usize::FILL; 4];
+        let mut a = Guarded::of(&answer);
+        let turn = turn();
+        unsafe {
+            gelfost_read_pack(
+                p.pointer(),
+                pack.len(),
+                l.pointer(),
+                list.len(),
+                c.pointer(),
+                cells.len(),
+                m.pointer(),
+                marks.len(),
+                a.pointer(),
+            )
+        }
+        drop(turn);
+        held(
+            [p.unchanged(pack), l.back(list), c.back(cells), m.back(marks), a.back(&mut answer)],
+            &[&pack, &list.len(), &cells.len(), &marks.len()],
+        );
+        answer
+    }
+}
+
+/// What stands in the guards.
+trait Fill: Copy + PartialEq {
+    const FILL: Self;
+}
+
+impl Fill for u8 {
+    const FILL: u8 = 0xA5;
+}
+
+impl Fill for u16 {
+    const FILL: u16 = 0xA5A5;
+}
+
+impl Fill for usize {
+    const FILL: usize = usize::MAX / 255 * 0xA5;
+}
+
+/// The length of a guard.
+const GUARD: usize = 64;
+
+/// A copy of a slice for the product, between two guards that it must leave
+/// alone.
+struct Guarded<T> {
+    whole: Vec<T>,
+}
+
+/// Whether the product kept to what it is given and lent.
+type Held = Result<(), &'static str>;
+
+impl<T: Fill> Guarded<T> {
+    fn of(slice: &[T]) -> Guarded<T> {
+        let guard = [T::FILL; GUARD];
+        Guarded { whole: [&guard, slice, &guard].concat() }
+    }
+
+    fn pointer(&mut self) -> *mut T {
+        self.whole[GUARD..].as_mut_ptr()
+    }
+
+    /// What is between the guards, if these are as they were.
+    fn inner(&self) -> Result<&[T], &'static str> {
+        let (before, rest) = self.whole.split_at(GUARD);
+        let (inner, behind) = rest.split_at(rest.len() - GUARD);
+        if before.iter().any(|&t| t != T::FILL) {
+            return Err("wrote before a buffer");
+        }
+        if behind.iter().any(|&t| t != T::FILL) {
+            return Err("wrote behind a buffer");
+        }
+        Ok(inner)
+    }
+
+    /// An input afterwards.
+    fn unchanged(&self, input: &[T]) -> Held {
+        if self.inner()? != input {
+            return Err("changed its input");
+        }
+        Ok(())
+    }
+
+    /// A lent buffer afterwards.
+    fn back(&self, buffer: &mut [T]) -> Held {
+        buffer.copy_from_slice(self.inner()?);
+        Ok(())
+    }
+}
+
+/// Stops if the product did what it may not, and shows what it was given.
+fn held<const COUNT: usize>(list: [Held; COUNT], given: &[&dyn Debug]) {
+    for held in list {
+        if let Err(what) = held {
+            panic!("the product {what}; given in hexadecimal: {given:x?}");
+        }
+    }
 }

@@ -198,6 +198,25 @@ pub fn comb(random: &mut Random, rows: usize, events: usize) -> Table {
     renumbered(&table, &random.order(rows))
 }
 
+/// The table with every target within a radio image's reach, 128 rows before the
+/// own one to 127 after it: one beyond becomes the very end of the reach, or any
+/// row in it.
+pub fn near(random: &mut Random, table: &Table) -> Table {
+    let mut other = table.clone();
+    for (cell, target) in other.targets.iter_mut().enumerate() {
+        let row = cell / table.events;
+        let (low, high) = (row.saturating_sub(128), (row + 127).min(table.rows - 1));
+        if *target < low || *target > high {
+            *target = if random.chance(1, 2) {
+                (*target).clamp(low, high)
+            } else {
+                random.between(low, high)
+            };
+        }
+    }
+    other
+}
+
 /// Equal marks towards the end, so that distances become finite.
 fn quieten_end(random: &mut Random, marks: &mut [bool]) {
     if random.chance(2, 3) {

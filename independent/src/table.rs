@@ -65,13 +65,7 @@ impl Table {
     pub fn image(&self) -> Vec<u8> {
         let mut bytes = Vec::new();
         push_number(&mut bytes, self.rows);
-        let mut packed = vec![0u8; self.rows.div_ceil(8)];
-        for (row, &ready) in self.marks.iter().enumerate() {
-            if ready {
-                packed[row / 8] += 2u8.pow((row % 8) as u32);
-            }
-        }
-        bytes.extend(packed);
+        bytes.extend(self.packed());
         push_number(&mut bytes, self.rows * self.events);
         for &target in &self.targets {
             push_number(&mut bytes, target);
@@ -79,6 +73,18 @@ impl Table {
         push_number(&mut bytes, 1);
         push_number(&mut bytes, self.start);
         bytes
+    }
+
+    /// The marks: "row r has the bit worth 2^(r mod 8) in byte r div 8; set
+    /// means ready, clear means wait; spare bits of the last byte are 0".
+    pub fn packed(&self) -> Vec<u8> {
+        let mut packed = vec![0u8; self.rows.div_ceil(8)];
+        for (row, &ready) in self.marks.iter().enumerate() {
+            if ready {
+                packed[row / 8] += 2u8.pow((row % 8) as u32);
+            }
+        }
+        packed
     }
 
     /// What `reduce` is given for this table and offset.
@@ -97,7 +103,7 @@ impl Table {
 }
 
 /// "Counts and numbers are 16 bits, low byte first."
-fn push_number(bytes: &mut Vec<u8>, number: usize) {
+pub fn push_number(bytes: &mut Vec<u8>, number: usize) {
     assert!(number <= 65_535);
     bytes.push((number % 256) as u8);
     bytes.push((number / 256) as u8);
@@ -105,15 +111,19 @@ fn push_number(bytes: &mut Vec<u8>, number: usize) {
 
 /// Takes bytes from the front of an image, and knows the image's whole length
 /// for refusal 8 ("an image ends early; place: its length").
-struct Taker<'a> {
+pub struct Taker<'a> {
     rest: &'a [u8],
     image_length: usize,
 }
 
 impl<'a> Taker<'a> {
+    pub fn new(image: &'a [u8]) -> Taker<'a> {
+        Taker { rest: image, image_length: image.len() }
+    }
+
     /// A section's length is judged before its contents: either all `count`
     /// bytes are there, or the image ends early.
-    fn bytes(&mut self, count: usize) -> Result<&'a [u8], Refusal> {
+    pub fn bytes(&mut self, count: usize) -> Result<&'a [u8], Refusal> {
         if self.rest.len() < count {
             return Err(Refusal { number: 8, place: self.image_length });
         }
@@ -122,8 +132,60 @@ impl<'a> Taker<'a> {
         Ok(taken)
     }
 
-    fn number(&mut self) -> Result<usize, Refusal> {
+    pub fn number(&mut self) -> Result<usize, Refusal> {
         Ok(number_of(self.bytes(2)?))
+    }
+
+    /// "row count cut short (8), 1".
+    pub fn rows(&mut self) -> Result<usize, Refusal> {
+        let rows = self.number()?;
+        if rows == 0 || rows > 1024 {
+            return refuse(1);
+        }
+        Ok(rows)
+    }
+
+    /// "marks cut short (8), 6".
+    pub fn marks(&mut self, rows: usize) -> Result<Vec<bool>, Refusal> {
+        let packed = self.bytes(rows.div_ceil(8))?;
+        let bit = |row: usize| packed[row / 8] / 2u8.pow((row % 8) as u32) % 2 == 1;
+        if (rows..packed.len() * 8).any(bit) {
+            return refuse(6);
+        }
+        Ok((0..rows).map(bit).collect())
+    }
+
+    /// The events: "target count cut short (8), 9, 2".
+    pub fn events(&mut self, rows: usize) -> Result<usize, Refusal> {
+        let count = self.number()?;
+        if count % rows != 0 {
+            return refuse(9);
+        }
+        let events = count / rows;
+        if events == 0 || events > 32 {
+            return refuse(2);
+        }
+        Ok(events)
+    }
+
+    /// "start count cut short (8), 9, start cut short (8), 4".
+    pub fn start(&mut self, rows: usize) -> Result<usize, Refusal> {
+        if self.number()? != 1 {
+            return refuse(9);
+        }
+        let start = self.number()?;
+        if start >= rows {
+            return refuse(4);
+        }
+        Ok(start)
+    }
+
+    /// 10: "bytes follow the last section".
+    pub fn end(&self) -> Result<(), Refusal> {
+        if !self.rest.is_empty() {
+            return refuse(10);
+        }
+        Ok(())
     }
 }
 
@@ -131,7 +193,7 @@ fn number_of(two: &[u8]) -> usize {
     two[0] as usize + 256 * two[1] as usize
 }
 
-fn refuse<T>(number: usize) -> Result<T, Refusal> {
+pub fn refuse<T>(number: usize) -> Result<T, Refusal> {
     Err(Refusal { number, place: 0 })
 }
 
@@ -154,47 +216,19 @@ pub fn read_input(input: &[u8]) -> Result<(Offset, Table), Refusal> {
 /// cut short (8), 5, start count cut short (8), 9, start cut short (8), 4,
 /// 10". (7 cannot come: here nothing is lent.)
 pub fn read_image(image: &[u8]) -> Result<Table, Refusal> {
-    let mut taker = Taker { rest: image, image_length: image.len() };
-
-    let rows = taker.number()?;
-    if rows == 0 || rows > 1024 {
-        return refuse(1);
-    }
+    let mut taker = Taker::new(image);
+    let rows = taker.rows()?;
     if rows > 128 {
         return refuse(12);
     }
-
-    let packed = taker.bytes(rows.div_ceil(8))?;
-    let bit = |row: usize| packed[row / 8] / 2u8.pow((row % 8) as u32) % 2 == 1;
-    if (rows..packed.len() * 8).any(bit) {
-        return refuse(6);
-    }
-    let marks: Vec<bool> = (0..rows).map(bit).collect();
-
-    let count = taker.number()?;
-    if count % rows != 0 {
-        return refuse(9);
-    }
-    let events = count / rows;
-    if events == 0 || events > 32 {
-        return refuse(2);
-    }
-
-    let cells = taker.bytes(2 * count)?;
+    let marks = taker.marks(rows)?;
+    let events = taker.events(rows)?;
+    let cells = taker.bytes(2 * rows * events)?;
     let targets: Vec<usize> = cells.chunks(2).map(number_of).collect();
     if let Some(cell) = targets.iter().position(|&target| target >= rows) {
         return Err(Refusal { number: 5, place: cell });
     }
-
-    if taker.number()? != 1 {
-        return refuse(9);
-    }
-    let start = taker.number()?;
-    if start >= rows {
-        return refuse(4);
-    }
-    if !taker.rest.is_empty() {
-        return refuse(10);
-    }
+    let start = taker.start(rows)?;
+    taker.end()?;
     Ok(Table { rows, events, start, targets, marks })
 }

@@ -1,8 +1,11 @@
 //! (d) Document 01's own cases: every case of "Tables to try", and every row
 //! of "Refused, and on what" that `reduce` can show. The expected texts are
-//! written here by hand from the document, not made by rules.rs.
+//! written here by hand from the document, not made by rules.rs. So are the sheets
+//! of request 101, and the radio images and packs of request 102.
 
-use independent::product::{reduce_text, sheet_text};
+use independent::calls::{compare, Call, Numbers, Outcome};
+use independent::product::{reduce_text, sheet_text, Product};
+use independent::radio::Answer;
 use independent::rules::{text_for, Length, Study};
 use independent::sheet;
 use independent::table::Table;
@@ -512,4 +515,308 @@ fn first_rule_broken() {
         prints(&input, &format!("refused {answer}\n"));
     }
     println!("product: {} images with two faults", list.len());
+}
+
+/// The product does in a call what radio.rs does; and this is the answer.
+fn answers(call: Call, answer: Answer) -> Outcome {
+    answers_to("", call, answer)
+}
+
+/// The same, with the name of what is tried.
+fn answers_to(name: &str, call: Call, answer: Answer) -> Outcome {
+    let left = compare(&Product, &call).unwrap_or_else(|what| panic!("{name}: {what}"));
+    assert_eq!(left.answer, answer, "{name}: {call}");
+    left
+}
+
+/// The table is written as this radio image, and the image read as the table.
+fn radio(table: &Table, image: &str) {
+    let (given, image) = (Numbers::of(table), bytes(image));
+    let call = Call::WriteRadio { given: given.clone(), out: image.len() };
+    assert_eq!(answers(call, [0, image.len(), 0, 0]).out, image);
+    let call = Call::ReadRadio { image, cells: given.cells.len(), marks: given.marks.len() };
+    let left = answers(call, [0, table.rows, table.events, table.start]);
+    assert_eq!((left.cells, left.marks), (given.cells, given.marks));
+}
+
+/// Request 102: "sections as now, but each target is a signed byte, target minus
+/// own row". The row count, the marks; the target count, the steps row by row; the
+/// count 1, the start.
+#[test]
+fn radio_images() {
+    // From 0 to 1, from 1 to 2, from 2 to 2: steps 1, 1, 0.
+    radio(&a(), "03 00 01  03 00 01 01 00  01 00 00 00");
+    // From 0 to 1 and 2: steps 1 2; from 1 to 0: −1, ff; from 2 to 0: −2, fe.
+    radio(&b(), "03 00 02  06 00 01 02 ff ff fe fe  01 00 00 00");
+    radio(&c(), "04 00 02  04 00 01 01 01 00  01 00 00 00");
+    // And from 3 to 0: −3, fd.
+    radio(&d(), "04 00 02  08 00 01 02 ff ff fe fe fd fd  01 00 03 00");
+    radio(&e(W), "01 00 00  02 00 00 00  01 00 00 00");
+    radio(&e(R), "01 00 01  02 00 00 00  01 00 00 00");
+    // From 0 to 0, from 1 to 0: steps 0, −1.
+    radio(&f(), "02 00 02  02 00 00 ff  01 00 00 00");
+}
+
+/// 129 rows, row 0 leading to row 127 and every other to row 0: the steps are 127,
+/// −1, −2 and so on to −128, in hexadecimal 7f ff fe ... 80.
+#[test]
+fn radio_image_with_all_the_reach() {
+    let mut targets = [0; 129];
+    targets[0] = 127;
+    let mut steps = "7f".to_string();
+    for byte in (0x80..=0xff).rev() {
+        steps += &format!(" {byte:02x}");
+    }
+    let image = format!("81 00 {} 81 00 {steps} 01 00 80 00", "00 ".repeat(17));
+    radio(&Table::new(1, 128, &targets, &[W; 129]), &image);
+}
+
+/// "14 (writer), a step outside −128 to 127, place the first such cell, between 6
+/// and 7".
+#[test]
+fn refusal_14() {
+    let mut given =
+        Numbers { rows: 129, events: 1, start: 0, cells: vec![0; 129], marks: vec![0; 17] };
+    let write = |given: &Numbers, out| Call::WriteRadio { given: given.clone(), out };
+    // 17 mark bytes, 129 targets and 8 bytes.
+    answers(write(&given, 154), [0, 154, 0, 0]);
+    answers(write(&given, 153), [7, 0, 0, 0]);
+    // From 0 to 128.
+    given.cells[0] = 128;
+    answers(write(&given, 154), [14, 0, 0, 0]);
+    answers(write(&given, 0), [14, 0, 0, 0]);
+    // Row 128 is the only one of the last byte; its next bit is spare.
+    given.marks[16] = 2;
+    answers(write(&given, 154), [6, 0, 0, 0]);
+    given.cells[128] = 129;
+    answers(write(&given, 154), [5, 128, 0, 0]);
+    // Two events: row 129 has the cells 258 and 259. From 129 to 0: −129.
+    let mut given =
+        Numbers { rows: 130, events: 2, start: 0, cells: vec![1; 260], marks: vec![0; 17] };
+    answers(write(&given, 285), [0, 285, 0, 0]);
+    given.cells[259] = 0;
+    answers(write(&given, 285), [14, 259, 0, 0]);
+    given.cells[258] = 0;
+    answers(write(&given, 285), [14, 258, 0, 0]);
+}
+
+/// The other refusals of the radio writer, by the examples of document 01.
+#[test]
+fn refusals_of_the_radio_writer() {
+    let write = |rows, events, start, cells: &[u16], marks: &[u8], out, answer| {
+        let (cells, marks) = (cells.to_vec(), marks.to_vec());
+        let given = Numbers { rows, events, start, cells, marks };
+        answers(Call::WriteRadio { given, out }, answer);
+    };
+    write(0, 1, 0, &[], &[], 0, [1, 0, 0, 0]);
+    write(0, 33, 0, &[], &[], 0, [1, 0, 0, 0]);
+    write(1025, 1, 0, &[0; 1025], &[0; 129], 0, [1, 0, 0, 0]);
+    write(1, 33, 0, &[0; 33], &[0], 100, [2, 0, 0, 0]);
+    write(1, 0, 0, &[], &[0], 100, [2, 0, 0, 0]);
+    write(2, 2, 0, &[0; 5], &[0], 100, [3, 0, 0, 0]);
+    write(2, 2, 2, &[0; 4], &[0, 0], 100, [3, 0, 0, 0]);
+    write(2, 1, 2, &[2, 2], &[4], 100, [4, 0, 0, 0]);
+    write(2, 1, 0, &[1, 2], &[4], 100, [5, 1, 0, 0]);
+    write(2, 1, 0, &[1, 1], &[4], 0, [6, 0, 0, 0]);
+    // A has one mark byte and three targets: 12 bytes.
+    write(3, 1, 0, &[1, 2, 2], &[1], 11, [7, 0, 0, 0]);
+    write(3, 1, 0, &[1, 2, 2], &[1], 12, [0, 12, 0, 0]);
+}
+
+/// "the first rule broken gives the answer", as of images: each line has what is
+/// wrong, the radio image, the answer.
+#[test]
+fn first_rule_broken_of_radio_images() {
+    let list = [
+        ("no row count", "", [8, 0]),
+        ("row count cut short", "02", [8, 1]),
+        ("1 before all", "00 00 ff ff ff", [1, 0]),
+        ("1,025 rows", "01 04", [1, 0]),
+        ("1,024 rows, marks cut short", "00 04", [8, 2]),
+        ("marks cut short before 6", "09 00 ff", [8, 3]),
+        ("6 before target count cut short", "02 00 ff", [6, 0]),
+        ("6 before 9", "02 00 ff 03 00", [6, 0]),
+        ("target count cut short", "02 00 03 03", [8, 4]),
+        ("9 before targets cut short", "02 00 03 03 00", [9, 0]),
+        ("9 before 2: count 67 of 2 rows", "02 00 03 43 00", [9, 0]),
+        ("2 before targets cut short", "02 00 03 42 00", [2, 0]),
+        ("2 for count 0", "02 00 03 00 00", [2, 0]),
+        ("targets cut short before 5", "02 00 03 02 00 02", [8, 6]),
+        ("5 before start count cut short: 0 + 2 is no row", "02 00 03 02 00 02 00", [5, 0]),
+        ("0 − 1 is no row", "02 00 03 02 00 ff 00 01 00 00 00", [5, 0]),
+        ("1 − 2 is no row", "02 00 03 02 00 00 fe 01 00 00 00", [5, 1]),
+        ("1 + 1 is no row", "02 00 03 02 00 00 01 01 00 00 00", [5, 1]),
+        ("1 − 128 is no row", "02 00 03 02 00 00 80 01 00 00 00", [5, 1]),
+        ("1 + 127 is no row", "02 00 03 02 00 00 7f 01 00 00 00", [5, 1]),
+        ("two events: cell 2 is the first of row 1", "02 00 03 04 00 01 00 fe 01 07", [5, 2]),
+        ("5 before 9", "02 00 03 02 00 00 01 07 00", [5, 1]),
+        ("start count cut short", "02 00 03 02 00 01 ff 07", [8, 8]),
+        ("9 before start cut short", "02 00 03 02 00 01 ff 07 00", [9, 0]),
+        ("9 before 4", "02 00 03 02 00 01 ff 02 00 02 00", [9, 0]),
+        ("start cut short before 4", "02 00 03 02 00 01 ff 01 00 ff", [8, 10]),
+        ("4 before 10", "02 00 03 02 00 01 ff 01 00 02 00 00", [4, 0]),
+        ("10 before 7", "02 00 03 02 00 01 ff 01 00 01 00 00", [10, 0]),
+        ("7 alone", "02 00 03 02 00 01 ff 01 00 01 00", [7, 0]),
+    ];
+    for (what, image, [number, place]) in list {
+        let call = Call::ReadRadio { image: bytes(image), cells: 1, marks: 1 };
+        answers_to(what, call, [number, place, 0, 0]);
+    }
+    println!("product: {} radio images with faults", list.len());
+}
+
+/// A's and F's radio images, as above.
+const IMAGE_A: &str = "03 00 01  03 00 01 01 00  01 00 00 00";
+const IMAGE_F: &str = "02 00 02  02 00 00 ff  01 00 00 00";
+
+/// A pack of A and F: the count 2, then 12 and 11 bytes. In the list rows, events
+/// and start of each; then the targets 1 2 2 and 0 0; the mark bytes 1 and 2.
+#[test]
+fn pack_of_a_and_f() {
+    let pack = bytes(&format!("02 00  {IMAGE_A}  {IMAGE_F}"));
+    assert_eq!(pack.len(), 25);
+    let list = vec![3, 1, 0, 2, 1, 0];
+    let (cells, marks) = (vec![1, 2, 2, 0, 0], vec![1, 2]);
+    let write = |out| {
+        let (list, cells, marks) = (list.clone(), cells.clone(), marks.clone());
+        Call::WritePack { list, cells, marks, out }
+    };
+    assert_eq!(answers(write(25), [0, 25, 0, 0]).out, pack);
+    answers(write(24), [7, 0, 0, 0]);
+    assert_eq!(answers(write(30), [0, 25, 0, 0]).out[..25], pack);
+    let read = |list, cells, marks| Call::ReadPack { pack: pack.clone(), list, cells, marks };
+    let left = answers(read(6, 5, 2), [0, 2, 0, 0]);
+    assert_eq!((left.list, left.cells, left.marks), (list.clone(), cells.clone(), marks.clone()));
+    answers(read(5, 5, 2), [7, 0, 0, 0]);
+    answers(read(6, 4, 2), [7, 0, 0, 0]);
+    answers(read(6, 5, 1), [7, 0, 0, 0]);
+    let left = answers(read(9, 9, 9), [0, 2, 0, 0]);
+    assert_eq!(
+        (&left.list[..6], &left.cells[..5], &left.marks[..2]),
+        (&list[..], &cells[..], &marks[..])
+    );
+}
+
+/// Sixteen times F, and D between two of F: its cells and its mark byte lie between
+/// theirs.
+#[test]
+fn packs_of_d_and_f() {
+    let pack = bytes(&format!("10 00 {}", format!("{IMAGE_F} ").repeat(16)));
+    let left = answers(Call::ReadPack { pack, list: 48, cells: 32, marks: 16 }, [0, 16, 0, 0]);
+    assert_eq!(left.list, [2, 1, 0].repeat(16));
+    assert_eq!((left.cells, left.marks), (vec![0; 32], vec![2; 16]));
+    let image_d = "04 00 02  08 00 01 02 ff ff fe fe fd fd  01 00 03 00";
+    let pack = bytes(&format!("03 00 {IMAGE_F} {image_d} {IMAGE_F}"));
+    let left = answers(Call::ReadPack { pack, list: 9, cells: 12, marks: 3 }, [0, 3, 0, 0]);
+    assert_eq!(left.list, [2, 1, 0, 4, 2, 3, 2, 1, 0]);
+    assert_eq!(left.cells, [0, 0, 1, 2, 0, 0, 0, 0, 0, 0, 0, 0]);
+    assert_eq!(left.marks, [2, 2, 2]);
+}
+
+/// Packs that are refused. "Places count within the table at fault, but 8 gives the
+/// pack's length, also for a cut count"; "bytes left over are judged only after the
+/// last"; "15, a pack count of 0 or above 16, before the first image".
+#[test]
+fn refusals_of_packs() {
+    // A pack of A and F in which F is another.
+    let with = |second: &str| format!("02 00 {IMAGE_A} {second}");
+    let list = [
+        ("no count", String::new(), [8, 0]),
+        ("half a count", "02".to_string(), [8, 1]),
+        ("15 before the images", "00 00".to_string(), [15, 0]),
+        ("17", format!("11 00 {}", format!("{IMAGE_F} ").repeat(17)), [15, 0]),
+        ("the high byte counts too", format!("01 01 {IMAGE_F}"), [15, 0]),
+        ("no image", "01 00".to_string(), [8, 2]),
+        ("no second image", with(""), [8, 14]),
+        ("half of its row count", with("02"), [8, 15]),
+        ("1", with("00 00"), [1, 0]),
+        ("its marks cut short", with("09 00 ff"), [8, 17]),
+        ("6", with("02 00 04"), [6, 0]),
+        ("9", with("02 00 02 03 00"), [9, 0]),
+        ("2", with("02 00 02 42 00"), [2, 0]),
+        ("its targets cut short", with("02 00 02 02 00 00"), [8, 20]),
+        ("the place is in F", with("02 00 02 02 00 00 fe 01 00 00 00"), [5, 1]),
+        ("start count", with("02 00 02 02 00 00 ff 02 00 00 00"), [9, 0]),
+        ("start cut short", with("02 00 02 02 00 00 ff 01 00 00"), [8, 24]),
+        ("4 before 10", with("02 00 02 02 00 00 ff 01 00 02 00 00"), [4, 0]),
+        ("10 before 7", with(&format!("{IMAGE_F} 00")), [10, 0]),
+        ("a third image is left over", with(&format!("{IMAGE_F} {IMAGE_A}")), [10, 0]),
+        ("7 alone", with(IMAGE_F), [7, 0]),
+        // A's start is no row: judged before all of F.
+        ("A before F", "02 00 03 00 01 03 00 01 01 00 01 00 03 00 00 00".to_string(), [4, 0]),
+        // A's row 2 leads to row 3; F has no rows.
+        ("A's place", "02 00 03 00 01 03 00 01 01 01 01 00 00 00 00 00".to_string(), [5, 2]),
+    ];
+    for (what, pack, [number, place]) in &list {
+        for (entries, cells, marks) in [(0, 0, 0), (6, 4, 2), (5, 5, 2), (6, 5, 1)] {
+            let call = Call::ReadPack { pack: bytes(pack), list: entries, cells, marks };
+            answers_to(what, call, [*number, *place, 0, 0]);
+        }
+    }
+    // A pack cut at any place has its own length as place.
+    let whole = bytes(&with(IMAGE_F));
+    for length in 0..whole.len() {
+        let pack = whole[..length].to_vec();
+        answers(Call::ReadPack { pack, list: 9, cells: 9, marks: 9 }, [8, length, 0, 0]);
+    }
+    println!("product: {} packs with faults", list.len() + whole.len());
+}
+
+/// "A pack's writer checks 15, then 1 and 2 table by table, then 3 once for all the
+/// tables together, then 4, 5, 6 and 14 table by table, then 7." Each line: what is
+/// wrong; list, cells and marks of A and F; the answer.
+#[test]
+fn refusals_of_the_pack_writer() {
+    type Line<'a> = (&'a str, &'a [u16], &'a [u16], &'a [u8], [usize; 2]);
+    let (list, cells, marks) = (&[3, 1, 0, 2, 1, 0], &[1, 2, 2, 0, 0], &[1, 2]);
+    let lines: [Line; 24] = [
+        ("no table", &[], &[], &[], [15, 0]),
+        ("no whole table", &[0, 0], cells, marks, [15, 0]),
+        ("17 tables without rows", &[0; 51], &[], &[], [15, 0]),
+        ("16 tables without rows, and two entries", &[0; 50], &[], &[], [1, 0]),
+        ("F's rows", &[3, 1, 0, 0, 1, 0], cells, marks, [1, 0]),
+        ("A's events before F's rows", &[3, 33, 0, 0, 1, 0], cells, marks, [2, 0]),
+        ("A's rows before F's events", &[1025, 1, 0, 2, 0, 0], cells, marks, [1, 0]),
+        ("F's events before A's start", &[3, 1, 3, 2, 0, 0], cells, marks, [2, 0]),
+        ("F's rows before too few cells", &[3, 1, 0, 0, 1, 0], &[1, 2], marks, [1, 0]),
+        ("an entry more", &[3, 1, 0, 2, 1, 0, 1], cells, marks, [3, 0]),
+        ("an entry fewer", &[3, 1, 0, 2, 1], cells, marks, [3, 0]),
+        ("F is not in the list", &[3, 1, 0], cells, marks, [3, 0]),
+        ("a cell fewer", list, &[1, 2, 2, 0], marks, [3, 0]),
+        ("a cell more", list, &[1, 2, 2, 0, 0, 0], marks, [3, 0]),
+        ("a mark byte fewer", list, cells, &[1], [3, 0]),
+        ("a mark byte more", list, cells, &[1, 2, 0], [3, 0]),
+        ("3 before A's start", &[3, 1, 3, 2, 1, 0], &[1, 2, 2, 0], marks, [3, 0]),
+        // The cells together are right: A takes 1 2 2 0, F the last 0.
+        ("F's start", &[4, 1, 0, 1, 1, 1], cells, marks, [4, 0]),
+        ("A's target before F's start", &[3, 1, 0, 2, 1, 2], &[1, 2, 3, 0, 0], marks, [5, 2]),
+        ("A's spare bit before F's start", &[3, 1, 0, 2, 1, 2], cells, &[9, 2], [6, 0]),
+        ("F's start before its target", &[3, 1, 0, 2, 1, 2], &[1, 2, 2, 0, 2], marks, [4, 0]),
+        ("the place is in F", list, &[1, 2, 2, 0, 2], &[1, 4], [5, 1]),
+        ("F's spare bit", list, cells, &[1, 4], [6, 0]),
+        ("7 alone", list, cells, marks, [7, 0]),
+    ];
+    for (what, list, cells, marks, [number, place]) in lines {
+        let (list, cells, marks) = (list.to_vec(), cells.to_vec(), marks.to_vec());
+        let call = Call::WritePack { list, cells, marks, out: 24 };
+        answers_to(what, call, [number, place, 0, 0]);
+    }
+
+    // 14: 129 rows that all lead to row 0, but row 0 to this target; and F with
+    // this start. Count and images are 2, 154 and 11 bytes.
+    for (target, start, out, answer) in [
+        (127, 0, 167, [0, 167, 0, 0]),
+        (127, 0, 166, [7, 0, 0, 0]),
+        (128, 0, 166, [14, 0, 0, 0]),
+        (128, 2, 167, [14, 0, 0, 0]),
+        (127, 2, 166, [4, 0, 0, 0]),
+    ] {
+        let list = vec![129, 1, 0, 2, 1, start];
+        let mut cells = vec![0; 131];
+        cells[0] = target;
+        let mut marks = vec![0; 18];
+        marks[17] = 2;
+        answers(Call::WritePack { list, cells, marks, out }, answer);
+    }
+    println!("product: {} lists of tables with faults", lines.len() + 4);
 }
