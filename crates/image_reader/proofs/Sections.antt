@@ -4,7 +4,7 @@ use mathlib.Core.Bool.{Bool, true, false}
 use mathlib.Core.List.{List, [], _∷_}
 use Prim.Native.Nat.{ℕ, _+_, _/_, _≤_, _<_}
 use native.Mathlib.Omega.{arith}
-use borrow.Author.Tests.{ltb-false, lt-ltb, le-ltb}
+use borrow.Author.Tests.{ltb-true, ltb-false, lt-ltb, le-ltb}
 use lib.Dec.{ltb}
 use lib.ListN.{length, getD}
 use Rattle.tables.specs.Table.{markBytes}
@@ -39,6 +39,15 @@ number-got b at value next e = pick (ltb (length b) (at + 2)) refl e
     pick : (c : Bool) → ltb (length b) (at + 2) ≡ c → checked (rule 8 c (length b)) (Got (numberAt b at) (at + 2)) ≡ Got value next → Number b at value next
     pick true t g = let z : _≡_ {A = ℕ} 0 1 = cc in absurd (omega arith)
     pick false t g = record { value-is = cc; next-is = cc; inside = ltb-false (length b) (at + 2) t }
+
+-- A number that was not got is cut short.
+pub number-cut : (b : List ℕ) (at number place : ℕ) → numberSection b at ≡ Refused number place → length b < at + 2
+unfolding numberSection
+number-cut b at number place e = pick (ltb (length b) (at + 2)) refl e
+  where
+    pick : (c : Bool) → ltb (length b) (at + 2) ≡ c → checked (rule 8 c (length b)) (Got (numberAt b at) (at + 2)) ≡ Refused number place → length b < at + 2
+    pick true t g = ltb-true (length b) (at + 2) t
+    pick false t g = let z : _≡_ {A = ℕ} 0 1 = cc in absurd (omega arith)
 
 -- The refusal of a section is the reader's answer.
 pub refuses-read : (s t : Section) (f : ℕ → ℕ → Read) (r : Read) (number place : ℕ) → s ≡ t → s ≡ Refused number place → r ≡ refusalOf s → r ≡ onward t f

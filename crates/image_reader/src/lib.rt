@@ -39,7 +39,7 @@ fn word(image: &[u8], at: usize) -> usize
 }
 
 // The number at a place, and the place after it.
-fn number(image: &[u8], at: usize) -> Section
+pub fn number(image: &[u8], at: usize) -> Section
     ensures { λ r. ⌜ r ≡ numberSection (now (image .entry)) at ⌝ }
 {
     let n = image.len();
@@ -285,7 +285,7 @@ pub fn read_within(
 }
 
 // Reads an image in a form of any table that the winch takes.
-fn read_form(alone: bool, form: Form, image: &[u8], cells: &mut [u16], marks: &mut [u8]) -> Read
+pub fn read_form(alone: bool, form: Form, image: &[u8], cells: &mut [u16], marks: &mut [u8]) -> Read
     ensures { λ r. ⌜ (let b = now (image .entry) in let given = now (cells .entry) in let bytes = now (marks .entry) in
         (r ≡ readAs alone form winch anyRows b (length given) (length bytes))
         × (now (cells .exit) ≡ cellsAs form r b given)

@@ -1,0 +1,5 @@
+pub mod Walk
+pub mod Judging
+pub mod Taking
+pub mod Reading
+pub mod RoundTrip

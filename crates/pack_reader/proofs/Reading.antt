@@ -1,0 +1,193 @@
+-- What the reader's last check comes to, and its four promises; parts of lent buffers written to.
+use mathlib.Core.Path.{_≡_, refl, sym, ap, _∙_}
+use mathlib.Core.Bool.{Bool, true, false, _||_}
+use mathlib.Core.List.{List, [], _∷_, _++_, append-nil, append-assoc}
+use Prim.Native.Nat.{ℕ, _+_, _-_, _*_, _≤_, _<_}
+use native.Mathlib.Nat.{zero-add}
+use native.Mathlib.Omega.{arith}
+use borrow.Rule.Slice.PartMut.{put-same}
+use borrow.Author.Tests.{lt-ltb, le-ltb}
+use lib.Dec.{ltb}
+use lib.ListN.{length, take, drop, set, length-drop, drop-of-length-le}
+use lib.Seq.{drop-drop}
+use Rattle.automata.proofs.Tests.{or-left, or-right}
+use Rattle.tables.specs.Table.{Table}
+use Rattle.tables.specs.Lists.{over}
+use Rattle.tables.proofs.Over.{over-length, over-over, over-set, over-two}
+use Rattle.rules.specs.Rules.{rule, outside}
+use Rattle.rules.proofs.Checks.{inside}
+use Rattle.images.specs.Image as Image
+use Rattle.images.specs.Image.{numberAt}
+use Rattle.images.specs.declared.Form.the-variants.{Radio}
+use Rattle.images.proofs.Numbers.{Bytes, drop-bytes}
+use Rattle.image_reader.specs.Read.{cellsAs, marksIn}
+use Rattle.image_reader.specs.Sections.{numberSection}
+use Rattle.image_reader.specs.declared.Section.the-variants.{Got}
+use Rattle.image_reader.proofs.Sections.{Number, number-got}
+use Rattle.image_reader.specs.declared.Read.{Read}
+use Rattle.image_reader.specs.declared.Read.the-variants as read
+use Rattle.packs.specs.Pack.{listOf, cellsOf, marksOf, cellsNeeded, marksNeeded}
+use Rattle.pack_reader.specs.Read.{Found, tables, refused, foundBy, imagesRead, packRead, roomed, unpacked, answerOf, leftIn}
+use Rattle.pack_reader.specs.Walk.{neededBy, tablesOf, partFrom}
+use Rattle.pack_reader.specs.declared.Needs.the-variants as needs
+use Rattle.pack_reader.specs.declared.Unpacked.{Unpacked}
+use Rattle.pack_reader.specs.declared.Unpacked.the-variants as answer
+use Rattle.pack_reader.proofs.Walk.{rest-of, images-hold}
+
+-- ---- parts of lent buffers
+
+-- The rest of a buffer, lent on and written over in front.
+module _ (d : List ℕ) (a : ℕ) where
+  abbrev pub rest : List ℕ
+  rest = take (length d - a) (drop a d)
+
+  abbrev beyond : List ℕ
+  beyond = drop (length d - a) (drop a d)
+
+  nothing : beyond ≡ []
+  nothing = drop-of-length-le (drop a d) {i = length d - a} (omega (arith, length-drop a d))
+
+  rest-over : (s : List ℕ) → take a d ++ (over rest 0 s ++ beyond) ≡ over d a s
+  unfolding over
+  rest-over s =
+      ap (λ (l : List ℕ). take a d ++ (over rest 0 s ++ l)) nothing
+      ∙ ap (λ (l : List ℕ). take a d ++ l) (append-nil (over rest 0 s))
+      ∙ ap (λ (l : List ℕ). take a d ++ over l 0 s) (rest-of d a)
+      ∙ ap (λ (l : List ℕ). take a d ++ (s ++ l)) (drop-drop (0 + length s) a d)
+      ∙ sym (append-assoc (take a d) s (drop (a + (0 + length s)) d))
+      ∙ ap (λ (n : ℕ). take a d ++ s ++ drop (a + n) d) (zero-add (length s))
+
+  pub rest-length : length (take (length d - a) (drop a d)) ≡ length d - a
+  rest-length = ap length (rest-of d a) ∙ length-drop a d
+
+  pub rest-from : (r : Read) (part : ℕ → ℕ → List ℕ) (p : List ℕ) → p ≡ partFrom r part rest 0 → take a d ++ (p ++ beyond) ≡ partFrom r part d a
+  rest-from (read.Table rows events start) part p e = ap (λ (q : List ℕ). take a d ++ (q ++ beyond)) e ∙ rest-over (part rows events)
+  rest-from (read.Refused number place) part p e = ap (λ (q : List ℕ). take a d ++ (q ++ beyond)) e ∙ put-same a (length d - a) d
+
+-- What the image reader leaves in a buffer, said of its part.
+pub cells-part : (r : Read) (b d : List ℕ) → cellsAs Radio r b d ≡ partFrom r (λ rows events. Image.cellsOf Radio b rows events) d 0
+cells-part (read.Table rows events start) b d = refl
+cells-part (read.Refused number place) b d = refl
+
+pub marks-part : (r : Read) (b d : List ℕ) → marksIn r b d ≡ partFrom r (λ rows events. Image.marksOf b rows) d 0
+marks-part (read.Table rows events start) b d = refl
+marks-part (read.Refused number place) b d = refl
+
+-- Three entries.
+pub over-three : (d : List ℕ) (at x y z : ℕ) → at + 3 ≤ length d → set (set (set d at x) (at + 1) y) (at + 2) z ≡ over d at (x ∷ y ∷ z ∷ [])
+over-three d at x y z h =
+    let two : List ℕ = x ∷ y ∷ [] in
+    ap (λ (s : List ℕ). set s (at + 2) z) (over-two d at x y (omega arith))
+    ∙ over-set (over d at two) (at + 2) z (omega (arith, over-length d at two (omega arith)))
+    ∙ over-over d at two (omega arith) (z ∷ [])
+
+-- ---- what the checks come to
+
+-- The count.
+module _ (b : List ℕ) where
+  pub pack-cut : length b < 2 → packRead b ≡ refused 8 (length b)
+  unfolding packRead
+  pack-cut h = rw (lt-ltb (length b) 2 h)
+
+  module _ (h : 2 ≤ length b) where
+    pub pack-count : outside 16 (numberAt b 0) ≡ true → packRead b ≡ refused 15 0
+    unfolding packRead
+    pack-count t = rw (le-ltb (length b) 2 h, t)
+
+    pub pack-images : outside 16 (numberAt b 0) ≡ false → packRead b ≡ imagesRead (length b) (numberAt b 0) (drop 2 b)
+    unfolding packRead
+    pack-images t = rw (le-ltb (length b) 2 h, t)
+
+-- A count that was read and is from 1 to 16: the images follow.
+pub record Counted (b : List ℕ) (count : ℕ) : Type 0 where
+  pub two : 2 ≤ length b
+  pub few : count ≤ 16
+  pub images : packRead b ≡ imagesRead (length b) count (drop 2 b)
+
+module _ (b : List ℕ) (count next : ℕ) (e : numberSection b 0 ≡ Got count next) where
+  abbrev number : Number b 0 count next
+  number = number-got b 0 count next e
+
+  pub count-outside : outside 16 count ≡ true → packRead b ≡ refused 15 0
+  count-outside t = pack-count b (omega (arith, number .inside)) (rw (number .value-is) at t)
+
+  pub counted : outside 16 count ≡ false → Counted b count
+  counted t = record {
+    two = omega (arith, number .inside);
+    few = inside 16 count .0 t .1;
+    images = rw (number .value-is) (pack-images b (omega (arith, number .inside)) (rw (number .value-is) at t));
+  }
+
+-- What judging the images tells.
+needed-refused : (F : Found) (number place : ℕ) → neededBy F ≡ needs.Refused number place → F ≡ refused number place
+needed-refused (tables l) number place e = let z : _≡_ {A = ℕ} 0 1 = cc in absurd (omega arith)
+needed-refused (refused x y) number place e = cc
+
+needed-room : (F : Found) (x y : ℕ) → neededBy F ≡ needs.Room x y
+    → (F ≡ tables (tablesOf F)) × (cellsNeeded (listOf (tablesOf F)) ≡ x) × (marksNeeded (listOf (tablesOf F)) ≡ y)
+needed-room (tables l) x y e = (refl, cc, cc)
+needed-room (refused number place) x y e = let z : _≡_ {A = ℕ} 0 1 = cc in absurd (omega arith)
+
+-- Judged and found fine: the tables, as many as the count says, and what they need.
+pub record Needed (b : List ℕ) (count x y : ℕ) (l : List Table) : Type 0 where
+  pub is : packRead b ≡ tables l
+  pub many : length l ≡ count
+  pub cells-are : cellsNeeded (listOf l) ≡ x
+  pub marks-are : marksNeeded (listOf l) ≡ y
+  pub found : imagesRead (length b) count (drop 2 b) ≡ tables l
+
+module _ {b : List ℕ} {count : ℕ} (k : Counted b count) where
+  pub needed-never : (number place : ℕ) → neededBy (imagesRead (length b) count (drop 2 b)) ≡ needs.Refused number place → packRead b ≡ refused number place
+  needed-never number place e = k .images ∙ needed-refused (imagesRead (length b) count (drop 2 b)) number place e
+
+  pub needed : Bytes b → (x y : ℕ) → neededBy (imagesRead (length b) count (drop 2 b)) ≡ needs.Room x y → Needed b count x y (tablesOf (imagesRead (length b) count (drop 2 b)))
+  needed bytes x y e =
+      let r = needed-room (imagesRead (length b) count (drop 2 b)) x y e in
+      record {
+        is = k .images ∙ r .0;
+        many = images-hold (length b) count (drop 2 b) (drop-bytes 2 b bytes) _ (r .0) .count;
+        cells-are = r .1;
+        marks-are = r .2;
+        found = r .0;
+      }
+
+-- ---- the reader's four promises
+
+module _ (b list cells marks : List ℕ) where
+  abbrev found : Found
+  found = unpacked b (length list) (length cells) (length marks)
+
+  -- The answer r, with what is left in the list, the cells and the mark bytes.
+  abbrev pub Unpacks : Unpacked → List ℕ → List ℕ → List ℕ → Type 0
+  Unpacks r list′ cells′ marks′ = (r ≡ answerOf found) × (list′ ≡ leftIn found listOf list) × (cells′ ≡ leftIn found cellsOf cells) × (marks′ ≡ leftIn found marksOf marks)
+
+  by : (F : Found) → found ≡ F → Unpacks (answerOf F) (leftIn F listOf list) (leftIn F cellsOf cells) (leftIn F marksOf marks)
+  by F e = rw (← e) (refl, refl, refl, refl)
+
+  pub unpacks-refused : (number place : ℕ) → packRead b ≡ refused number place → Unpacks (answer.Refused number place) list cells marks
+  unfolding unpacked
+  unpacks-refused number place e = by (refused number place) (ap (λ (F : Found). roomed F (length list) (length cells) (length marks)) e)
+
+  module _ (l : List Table) (e : packRead b ≡ tables l) where
+    abbrev short : Bool
+    short = ltb (length list) (3 * length l) || (ltb (length cells) (cellsNeeded (listOf l)) || ltb (length marks) (marksNeeded (listOf l)))
+
+    last : found ≡ foundBy (rule 7 short 0) (tables l)
+    unfolding unpacked
+    last = ap (λ (F : Found). roomed F (length list) (length cells) (length marks)) e
+
+    unpacks-short : short ≡ true → Unpacks (answer.Refused 7 0) list cells marks
+    unpacks-short t = by (refused 7 0) (last ∙ ap (λ (u : Bool). foundBy (rule 7 u 0) (tables l)) t)
+
+    pub short-list : length list < 3 * length l → Unpacks (answer.Refused 7 0) list cells marks
+    short-list h = unpacks-short (or-left _ _ (lt-ltb _ _ h))
+
+    pub short-cells : length cells < cellsNeeded (listOf l) → Unpacks (answer.Refused 7 0) list cells marks
+    short-cells h = unpacks-short (or-right (ltb (length list) (3 * length l)) _ (or-left _ _ (lt-ltb _ _ h)))
+
+    pub short-marks : length marks < marksNeeded (listOf l) → Unpacks (answer.Refused 7 0) list cells marks
+    short-marks h = unpacks-short (or-right (ltb (length list) (3 * length l)) _ (or-right (ltb (length cells) (cellsNeeded (listOf l))) _ (lt-ltb _ _ h)))
+
+    pub unpacks-tables : 3 * length l ≤ length list → cellsNeeded (listOf l) ≤ length cells → marksNeeded (listOf l) ≤ length marks
+        → Unpacks (answer.Tables (length l)) (over list 0 (listOf l)) (over cells 0 (cellsOf l)) (over marks 0 (marksOf l))
+    unpacks-tables h g k = by (tables l) (last ∙ rw (le-ltb (length list) (3 * length l) h, le-ltb (length cells) (cellsNeeded (listOf l)) g, le-ltb (length marks) (marksNeeded (listOf l)) k))

@@ -1,0 +1,126 @@
+use mathlib.Core.Path.{_≡_, sym, ap, _∙_}
+use mathlib.Core.List.{List}
+use Prim.Native.Nat.{ℕ, suc, _+_, _-_, _*_, _≤_}
+use native.Mathlib.Nat.{mul-le-mul}
+use native.Mathlib.Numerals.{add-one}
+use lib.ListN.{length, drop}
+use Rattle.images.specs.Image.{imageLength}
+use Rattle.images.specs.declared.Form.the-variants.{Radio}
+use Rattle.image_reader.specs.declared.Read.the-variants.{Table, Refused}
+use Rattle.pack_reader.specs.Walk.{refusalIn}
+use Rattle.pack_reader.proofs.Walk.{front, rest-of}
+use Rattle.pack_reader.proofs.Judging.{Judging, judging-begin, judging-refused, few-rows, few-events, image-inside, judging-next, judging-more, judging-end}
+use native.Mathlib.Omega.{arith}
+use Rattle.pack_reader.proofs.judge.Statement.{statement}
+use Rattle.pack_reader.proofs.judge.Tie as tie
+
+abbrev Inv-loop : tie.InvT-loop
+Inv-loop pack count at₀ cells₀ marks₀ i₀ at cells marks i = Judging pack count i at cells marks
+
+abbrev μ-loop : tie.MeasureT-loop
+μ-loop pack count at₀ cells₀ marks₀ i₀ at cells marks i = count - i
+
+loop-holds : tie.Need-loop-holds Inv-loop μ-loop
+loop-holds c = judging-begin (c .before .args .pack .now) (c .before .args .count) (c .before .pre .0)
+
+returns : tie.Need-returns Inv-loop μ-loop
+returns c =
+    let a = c .before .before .before .before .before .before .before .before .args in
+    let b = a .pack .now in
+    let l = c .before .before .before .before .before .before .loop in
+    let e = sym (c .before .before .before .open-image .ensures ∙ ap front (rest-of b (l .at))) ∙ c .before .enum-told .given .1 in
+    c .refusal .ensures ∙ ap (refusalIn (length b)) (c .before .enum-told .given .1) ∙ sym (judging-refused (l .inv) (omega arith) _ _ e)
+
+cast-image-length : tie.Need-cast-image-length Inv-loop μ-loop
+cast-image-length c =
+    let b = c .before .before .before .before .before .before .before .before .args .pack .now in
+    let l = c .before .before .before .before .before .before .loop in
+    let e = sym (c .before .before .before .open-image .ensures ∙ ap front (rest-of b (l .at))) ∙ c .before .read .given .1 in
+    record { fits = omega (arith, few-rows (l .inv) (omega arith) (λ i. omega (arith, c .before .before .before .before .before .before .before .shared-slice-known .given i)) _ _ _ e) }
+
+cast-image-length-2 : tie.Need-cast-image-length-2 Inv-loop μ-loop
+cast-image-length-2 c =
+    let b = c .before .before .before .before .before .before .before .before .args .pack .now in
+    let l = c .before .before .before .before .before .before .loop in
+    let e = sym (c .before .before .before .open-image .ensures ∙ ap front (rest-of b (l .at))) ∙ c .before .read .given .1 in
+    record { fits = omega (arith, few-events (l .inv) (omega arith) (λ i. omega (arith, c .before .before .before .before .before .before .before .shared-slice-known .given i)) _ _ _ e) }
+
+add-at : tie.Need-add-at Inv-loop μ-loop
+add-at c =
+    let b = c .before .before .before .before .before .before .before .before .before .args .pack .now in
+    let l = c .before .before .before .before .before .before .before .loop in
+    let e = sym (c .before .before .before .before .open-image .ensures ∙ ap front (rest-of b (l .at))) ∙ c .before .before .read .given .1 in
+    record { fits = omega (arith, c .image-length .ensures, image-inside (l .inv) (omega arith) (λ i. omega (arith, c .before .before .before .before .before .before .before .before .shared-slice-known .given i)) _ _ _ e) }
+
+mul-cells : tie.Need-mul-cells Inv-loop μ-loop
+mul-cells c =
+    let b = c .before .before .before .before .before .before .before .before .before .args .pack .now in
+    let l = c .before .before .before .before .before .before .before .loop in
+    let e = sym (c .before .before .before .before .open-image .ensures ∙ ap front (rest-of b (l .at))) ∙ c .before .before .read .given .1 in
+    let n = judging-next (l .inv) (omega arith) (λ i. omega (arith, c .before .before .before .before .before .before .before .before .shared-slice-known .given i)) _ _ _ e in
+    record { fits = omega (arith, n .few-cells) }
+
+add-cells : tie.Need-add-cells Inv-loop μ-loop
+add-cells c =
+    let b = c .before .before .before .before .before .before .before .before .before .args .pack .now in
+    let l = c .before .before .before .before .before .before .before .loop in
+    let e = sym (c .before .before .before .before .open-image .ensures ∙ ap front (rest-of b (l .at))) ∙ c .before .before .read .given .1 in
+    let n = judging-next (l .inv) (omega arith) (λ i. omega (arith, c .before .before .before .before .before .before .before .before .shared-slice-known .given i)) _ _ _ e in
+    record { fits = omega (arith, n .few-cells) }
+
+add-marks : tie.Need-add-marks Inv-loop μ-loop
+add-marks c =
+    let b = c .before .before .before .before .before .before .before .before .before .before .args .pack .now in
+    let l = c .before .before .before .before .before .before .before .before .loop in
+    let e = sym (c .before .before .before .before .before .open-image .ensures ∙ ap front (rest-of b (l .at))) ∙ c .before .before .before .read .given .1 in
+    let n = judging-next (l .inv) (omega arith) (λ i. omega (arith, c .before .before .before .before .before .before .before .before .before .shared-slice-known .given i)) _ _ _ e in
+    record { fits = omega (arith, c .mark-bytes .ensures, n .few-marks) }
+
+loop-again : tie.Need-loop-again Inv-loop μ-loop
+loop-again c =
+    let a = c .before .before .before .before .before .before .before .before .before .before .args in
+    let b = a .pack .now in
+    let l = c .before .before .before .before .before .before .before .before .loop in
+    let e = sym (c .before .before .before .before .before .open-image .ensures ∙ ap front (rest-of b (l .at))) ∙ c .before .before .before .read .given .1 in
+    let n = judging-next (l .inv) (omega arith) (λ i. omega (arith, c .before .before .before .before .before .before .before .before .before .shared-slice-known .given i)) _ _ _ e in
+    rw (add-one, c .before .image-length .ensures, c .mark-bytes .ensures) n
+
+returns-2 : tie.Need-returns-2 Inv-loop μ-loop
+returns-2 c =
+    let l = c .before .before .loop in
+    sym (judging-more (l .inv) (omega arith) (c .if1 .taken))
+
+returns-3 : tie.Need-returns-3 Inv-loop μ-loop
+returns-3 c =
+    let l = c .before .before .loop in
+    sym (judging-end (l .inv) (omega arith) (c .if1 .left))
+
+pub judge-spec : {M : Type 1} → statement M
+judge-spec =
+    tie.close
+    
+    (tie.spec
+    Inv-loop
+    μ-loop
+    loop-holds
+    (λ c. omega arith)
+    (λ c. omega arith)
+    (λ c. omega arith)
+    (λ c κs. omega arith)
+    (λ c. omega arith)
+    (λ c. omega arith)
+    (λ c κs. omega arith)
+    returns
+    cast-image-length
+    cast-image-length-2
+    (λ c κs. omega arith)
+    add-at
+    mul-cells
+    add-cells
+    (λ c κs. omega arith)
+    add-marks
+    (λ c. omega arith)
+    (λ c. omega arith)
+    loop-again
+    returns-2
+    returns-3)

@@ -1,0 +1,4 @@
+pub mod Threes
+pub mod Tables
+pub mod Images
+pub mod Filling

@@ -1,0 +1,1 @@
+// Packs of radio images: definitions in specs/, laws in proofs/, no code.
