@@ -264,8 +264,8 @@ pub fn open_image(form: Form, image: &[u8]) -> Read
     ensures { λ r. ⌜ r ≡ readOf false form winch anyRows (now (image .entry)) ⌝ }
 {
     let limits = rules::winch();
-    let most = limits.rows;
-    judge(false, form, limits, most, image)
+    let small = limits.rows;
+    judge(false, form, limits, small, image)
 }
 
 // Reads document 01's image of a table within limits and of few enough rows.

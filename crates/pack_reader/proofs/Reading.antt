@@ -1,19 +1,16 @@
 -- What the reader's last check comes to, and its four promises; parts of lent buffers written to.
 use mathlib.Core.Path.{_≡_, refl, sym, ap, _∙_}
 use mathlib.Core.Bool.{Bool, true, false, _||_}
-use mathlib.Core.List.{List, [], _∷_, _++_, append-nil, append-assoc}
-use Prim.Native.Nat.{ℕ, _+_, _-_, _*_, _≤_, _<_}
-use native.Mathlib.Nat.{zero-add}
+use mathlib.Core.List.{List}
+use Prim.Native.Nat.{ℕ, _*_, _≤_, _<_}
 use native.Mathlib.Omega.{arith}
-use borrow.Rule.Slice.PartMut.{put-same}
 use borrow.Author.Tests.{lt-ltb, le-ltb}
 use lib.Dec.{ltb}
-use lib.ListN.{length, take, drop, set, length-drop, drop-of-length-le}
-use lib.Seq.{drop-drop}
+use lib.ListN.{length, drop}
 use Rattle.automata.proofs.Tests.{or-left, or-right}
 use Rattle.tables.specs.Table.{Table}
 use Rattle.tables.specs.Lists.{over}
-use Rattle.tables.proofs.Over.{over-length, over-over, over-set, over-two}
+use Rattle.tables.proofs.Over.{rest, withRest, rest-same, rest-over}
 use Rattle.rules.specs.Rules.{rule, outside}
 use Rattle.rules.proofs.Checks.{inside}
 use Rattle.images.specs.Image as Image
@@ -32,37 +29,14 @@ use Rattle.pack_reader.specs.Walk.{neededBy, tablesOf, partFrom}
 use Rattle.pack_reader.specs.declared.Needs.the-variants as needs
 use Rattle.pack_reader.specs.declared.Unpacked.{Unpacked}
 use Rattle.pack_reader.specs.declared.Unpacked.the-variants as answer
-use Rattle.pack_reader.proofs.Walk.{rest-of, images-hold}
+use Rattle.pack_reader.proofs.Walk.{images-hold}
 
 -- ---- parts of lent buffers
 
--- The rest of a buffer, lent on and written over in front.
-module _ (d : List ℕ) (a : ℕ) where
-  abbrev pub rest : List ℕ
-  rest = take (length d - a) (drop a d)
-
-  abbrev beyond : List ℕ
-  beyond = drop (length d - a) (drop a d)
-
-  nothing : beyond ≡ []
-  nothing = drop-of-length-le (drop a d) {i = length d - a} (omega (arith, length-drop a d))
-
-  rest-over : (s : List ℕ) → take a d ++ (over rest 0 s ++ beyond) ≡ over d a s
-  unfolding over
-  rest-over s =
-      ap (λ (l : List ℕ). take a d ++ (over rest 0 s ++ l)) nothing
-      ∙ ap (λ (l : List ℕ). take a d ++ l) (append-nil (over rest 0 s))
-      ∙ ap (λ (l : List ℕ). take a d ++ over l 0 s) (rest-of d a)
-      ∙ ap (λ (l : List ℕ). take a d ++ (s ++ l)) (drop-drop (0 + length s) a d)
-      ∙ sym (append-assoc (take a d) s (drop (a + (0 + length s)) d))
-      ∙ ap (λ (n : ℕ). take a d ++ s ++ drop (a + n) d) (zero-add (length s))
-
-  pub rest-length : length (take (length d - a) (drop a d)) ≡ length d - a
-  rest-length = ap length (rest-of d a) ∙ length-drop a d
-
-  pub rest-from : (r : Read) (part : ℕ → ℕ → List ℕ) (p : List ℕ) → p ≡ partFrom r part rest 0 → take a d ++ (p ++ beyond) ≡ partFrom r part d a
-  rest-from (read.Table rows events start) part p e = ap (λ (q : List ℕ). take a d ++ (q ++ beyond)) e ∙ rest-over (part rows events)
-  rest-from (read.Refused number place) part p e = ap (λ (q : List ℕ). take a d ++ (q ++ beyond)) e ∙ put-same a (length d - a) d
+-- The rest of a buffer, lent to the image reader.
+pub rest-from : (d : List ℕ) (a : ℕ) (r : Read) (part : ℕ → ℕ → List ℕ) (p : List ℕ) → p ≡ partFrom r part (rest d a) 0 → withRest d a p ≡ partFrom r part d a
+rest-from d a (read.Table rows events start) part p e = ap (withRest d a) e ∙ rest-over d a (part rows events)
+rest-from d a (read.Refused number place) part p e = ap (withRest d a) e ∙ rest-same d a
 
 -- What the image reader leaves in a buffer, said of its part.
 pub cells-part : (r : Read) (b d : List ℕ) → cellsAs Radio r b d ≡ partFrom r (λ rows events. Image.cellsOf Radio b rows events) d 0
@@ -72,14 +46,6 @@ cells-part (read.Refused number place) b d = refl
 pub marks-part : (r : Read) (b d : List ℕ) → marksIn r b d ≡ partFrom r (λ rows events. Image.marksOf b rows) d 0
 marks-part (read.Table rows events start) b d = refl
 marks-part (read.Refused number place) b d = refl
-
--- Three entries.
-pub over-three : (d : List ℕ) (at x y z : ℕ) → at + 3 ≤ length d → set (set (set d at x) (at + 1) y) (at + 2) z ≡ over d at (x ∷ y ∷ z ∷ [])
-over-three d at x y z h =
-    let two : List ℕ = x ∷ y ∷ [] in
-    ap (λ (s : List ℕ). set s (at + 2) z) (over-two d at x y (omega arith))
-    ∙ over-set (over d at two) (at + 2) z (omega (arith, over-length d at two (omega arith)))
-    ∙ over-over d at two (omega arith) (z ∷ [])
 
 -- ---- what the checks come to
 

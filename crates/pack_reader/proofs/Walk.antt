@@ -2,12 +2,12 @@
 use mathlib.Core.Path.{_≡_, refl, sym, ap, ap₂, _∙_}
 use mathlib.Core.Bool.{false}
 use mathlib.Core.List.{List, [], _∷_, _++_}
-use Prim.Native.Nat.{ℕ, zero, suc, _+_, _-_, _*_, _≤_, _<_}
+use Prim.Native.Nat.{ℕ, zero, suc, _+_, _≤_, _<_}
 use native.Mathlib.Omega.{arith}
 use borrow.Author.Tests.{lt-ltb, le-ltb}
 use lib.Dec.{ltb}
-use lib.ListN.{length, take, drop, length-drop}
-use lib.Seq.{take-all, drop-drop}
+use lib.ListN.{length, drop}
+use lib.Seq.{drop-drop}
 use Rattle.tables.specs.Table.{Table, Valid, markBytes}
 use Rattle.rules.specs.Rules.{winch}
 use Rattle.images.specs.Image.{radioImage, imageLength, tableAs}
@@ -25,10 +25,6 @@ use Rattle.pack_reader.specs.Walk.{tablesOf}
 -- What the image at the front of bytes says, whatever follows it.
 abbrev pub front : List ℕ → Read
 front b = readOf false Radio winch anyRows b
-
--- A part of bytes from a place on.
-pub rest-of : (b : List ℕ) (at : ℕ) → take (length b - at) (drop at b) ≡ drop at b
-rest-of b at = take-all (length b - at) (drop at b) (omega (arith, length-drop at b))
 
 -- The bytes behind an image that begins at a place.
 pub next-of : (b : List ℕ) (at n : ℕ) → drop n (drop at b) ≡ drop (at + n) b

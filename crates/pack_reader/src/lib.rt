@@ -76,14 +76,27 @@ fn put_entry(list: &mut [u16], at: usize, rows: usize, events: usize, start: usi
 }
 
 // Reads the image at a place of the pack into the cells and mark bytes from a place on.
-fn take_image(pack: &[u8], at: usize, cells: &mut [u16], c: usize, marks: &mut [u8], m: usize) -> Read
+fn take_image(
+    pack: &[u8],
+    at: usize,
+    cells: &mut [u16],
+    c: usize,
+    marks: &mut [u8],
+    m: usize,
+) -> Read
     requires { ⌜ (at ≤ length (now pack)) × (c ≤ length (now cells)) × (m ≤ length (now marks)) ⌝ }
     ensures { λ r. ⌜ (let b = drop at (now (pack .entry)) in let given = now (cells .entry) in let bytes = now (marks .entry) in
         (r ≡ readAs false Radio winch anyRows b (length given - c) (length bytes - m))
         × (now (cells .exit) ≡ partFrom r (λ rows events. Image.cellsOf Radio b rows events) given c)
         × (now (marks .exit) ≡ partFrom r (λ rows events. Image.marksOf b rows) bytes m)) ⌝ }
 {
-    image_reader::read_form(false, Form::Radio, &pack[at..], &mut cells[c..], &mut marks[m..])
+    image_reader::read_form(
+        false,
+        Form::Radio,
+        &pack[at..],
+        &mut cells[c..],
+        &mut marks[m..],
+    )
 }
 
 // Reads the images one after another; all was judged, and there is room.

@@ -41,7 +41,8 @@ module _ (T : Table) {L : Limits} {v : Verdict} (l : L ≡ winch) (e : v ≡ jud
     pub few-events : T .events ≤ 32
     few-events = table-shape .events-fit
 
-both-fine : (u v : Verdict) → andThen u v ≡ Fine → (u ≡ Fine) × (v ≡ Fine)
+-- Two verdicts, one after the other, are fine just if both are.
+pub both-fine : (u v : Verdict) → andThen u v ≡ Fine → (u ≡ Fine) × (v ≡ Fine)
 both-fine Fine v e = (refl, e)
 both-fine (Refused number place) v e = let z : _≡_ {A = ℕ} 0 1 = cc in absurd (omega arith)
 

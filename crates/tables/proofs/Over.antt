@@ -5,7 +5,7 @@ use Prim.Native.Nat.{ℕ, suc, _+_, _-_, _≤_, _<_}
 use native.Mathlib.Nat.{zero-add}
 use native.Mathlib.Omega.{arith}
 use native.Mathlib.Decide.{decLt}
-use lib.ListN.{length, getD, take, drop, set, length-append, length-drop, take-append-drop, List·getD-append}
+use lib.ListN.{length, getD, take, drop, set, length-append, length-drop, take-append-drop, drop-of-length-le, List·getD-append}
 use lib.Seq.{length-take-le, take-add, take-append-seam, getD-take, getD-drop, take-at, drop-at, take-suc, take-all, drop-drop, set-split, append-snoc, ext-getD}
 use Rattle.tables.specs.Lists.{over, tabulate}
 use Rattle.tables.proofs.Lists.{tabulate-length, tabulate-at}
@@ -58,6 +58,13 @@ over-two d at x y h =
     ap (λ (e : List ℕ). set e (at + 1) y) (over-set d at x (omega arith))
     ∙ over-set (over d at (x ∷ [])) (at + 1) y (omega (arith, over-length d at (x ∷ []) (omega arith)))
     ∙ over-over d at (x ∷ []) (omega arith) (y ∷ [])
+
+pub over-three : (d : List ℕ) (at x y z : ℕ) → at + 3 ≤ length d → set (set (set d at x) (at + 1) y) (at + 2) z ≡ over d at (x ∷ y ∷ z ∷ [])
+over-three d at x y z h =
+    let two : List ℕ = x ∷ y ∷ [] in
+    ap (λ (s : List ℕ). set s (at + 2) z) (over-two d at x y (omega arith))
+    ∙ over-set (over d at two) (at + 2) z (omega (arith, over-length d at two (omega arith)))
+    ∙ over-over d at two (omega arith) (z ∷ [])
 
 -- One element more of s.
 pub over-next : (d : List ℕ) (at : ℕ) (s : List ℕ) (i : ℕ) → i < length s → at + i < length d → set (over d at (take i s)) (at + i) (getD s i 0) ≡ over d at (take (suc i) s)
@@ -225,3 +232,31 @@ part-before d at count to s apart fits =
     ext-getD 0 (take count (drop at (over d to s))) (take count (drop at d)) (size ∙ sym (part-length d at count (omega arith))) (λ i h.
     let g : i < count = omega arith in
     part-at (over d to s) at count i g ∙ over-before d to s fits (at + i) 0 (omega arith) ∙ sym (part-at d at count i g))
+
+-- ---- the rest of a buffer, lent on from a place
+
+-- The rest, as it is lent, and the buffer with another rest in its place.
+abbrev pub rest : List ℕ → ℕ → List ℕ
+rest d at = take (length d - at) (drop at d)
+
+abbrev pub withRest : List ℕ → ℕ → List ℕ → List ℕ
+withRest d at s = take at d ++ (s ++ drop (length d - at) (drop at d))
+
+module _ (d : List ℕ) (at : ℕ) where
+  pub rest-is : rest d at ≡ drop at d
+  rest-is = take-all (length d - at) (drop at d) (omega (arith, length-drop at d))
+
+  pub rest-length : length (rest d at) ≡ length d - at
+  rest-length = ap length rest-is ∙ length-drop at d
+
+  pub rest-same : withRest d at (rest d at) ≡ d
+  rest-same = ap (λ (l : List ℕ). take at d ++ l) (take-append-drop (length d - at) (drop at d)) ∙ take-append-drop at d
+
+  -- What is written over the rest from its front is written over the buffer from the place.
+  pub rest-over : (s : List ℕ) → withRest d at (over (rest d at) 0 s) ≡ over d at s
+  unfolding over
+  rest-over s =
+      let front : over (drop at d) 0 s ≡ s ++ drop (at + length s) d =
+      ap (λ (n : ℕ). s ++ drop n (drop at d)) (zero-add (length s)) ∙ ap (λ (l : List ℕ). s ++ l) (drop-drop (length s) at d) in
+      rw (rest-is, drop-of-length-le (drop at d) {i = length d - at} (omega (arith, length-drop at d)))
+      (ap (λ (l : List ℕ). take at d ++ l) (append-nil (over (drop at d) 0 s) ∙ front) ∙ sym (append-assoc (take at d) s (drop (at + length s) d)))

@@ -31,7 +31,7 @@ mul-count c =
     let b = a .image .now in
     let g = c .before .judged .given in
     let e : readOf (a .alone) (a .form) (a .limits) (atMost (a .small)) b ≡ Table (g .0 .0) (g .0 .1 .0) (g .0 .1 .1 .0) = sym (c .before .before .before .judge .ensures ∙ image-order (a .alone) (a .form) (a .limits) (atMost (a .small)) b) ∙ g .1 in
-    let h = read-holds (a .alone) (a .form) (a .limits) (atMost (a .small)) b (λ i. omega (arith, c .before .before .before .before .before .before .shared-slice-known .given i)) (g .0 .0) (g .0 .1 .0) (g .0 .1 .1 .0) e in
+    let h = read-holds (a .alone) (a .form) (a .limits) (atMost (a .small)) b (λ i. c .before .before .before .before .before .before .shared-slice-known .given i .fits) (g .0 .0) (g .0 .1 .0) (g .0 .1 .1 .0) e in
     record { fits = omega (arith, h .small) }
 
 returns-2 : tie.Need-returns-2
@@ -56,7 +56,7 @@ copy-marks-requires c κs =
     let b = a .image .now in
     let g = c .before .before .before .before .before .judged .given in
     let e : readOf (a .alone) (a .form) (a .limits) (atMost (a .small)) b ≡ Table (g .0 .0) (g .0 .1 .0) (g .0 .1 .1 .0) = sym (c .before .before .before .before .before .before .before .judge .ensures ∙ image-order (a .alone) (a .form) (a .limits) (atMost (a .small)) b) ∙ g .1 in
-    let h = read-holds (a .alone) (a .form) (a .limits) (atMost (a .small)) b (λ i. omega (arith, c .before .before .before .before .before .before .before .before .before .before .shared-slice-known .given i)) (g .0 .0) (g .0 .1 .0) (g .0 .1 .1 .0) e in
+    let h = read-holds (a .alone) (a .form) (a .limits) (atMost (a .small)) b (λ i. c .before .before .before .before .before .before .before .before .before .before .shared-slice-known .given i .fits) (g .0 .0) (g .0 .1 .0) (g .0 .1 .1 .0) e in
     (omega (arith, h .fits, c .before .before .mark-bytes .ensures), omega arith)
 
 copy-cells-requires : tie.Need-copy-cells-requires
@@ -66,7 +66,7 @@ copy-cells-requires c κs =
     let g = c .before .before .before .before .before .before .before .before .before .judged .given in
     let m = c .before .before .before .before .before .before .mark-bytes in
     let e : readOf (a .alone) (a .form) (a .limits) (atMost (a .small)) b ≡ Table (g .0 .0) (g .0 .1 .0) (g .0 .1 .1 .0) = sym (c .before .before .before .before .before .before .before .before .before .before .before .judge .ensures ∙ image-order (a .alone) (a .form) (a .limits) (atMost (a .small)) b) ∙ g .1 in
-    let h = read-holds (a .alone) (a .form) (a .limits) (atMost (a .small)) b (λ i. omega (arith, c .before .before .before .before .before .before .before .before .before .before .before .before .before .before .shared-slice-known .given i)) (g .0 .0) (g .0 .1 .0) (g .0 .1 .1 .0) e in
+    let h = read-holds (a .alone) (a .form) (a .limits) (atMost (a .small)) b (λ i. c .before .before .before .before .before .before .before .before .before .before .before .before .before .before .shared-slice-known .given i .fits) (g .0 .0) (g .0 .1 .0) (g .0 .1 .1 .0) e in
     let at : 4 + m .result ≡ targetsAt (g .0 .0) + 2 = omega (arith, m .ensures) in
     (h .some-event, h .small, omega (arith, h .fits, m .ensures), omega arith, λ i k. rw at (h .targets-small i k))
 

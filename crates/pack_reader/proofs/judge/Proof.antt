@@ -8,7 +8,8 @@ use Rattle.images.specs.Image.{imageLength}
 use Rattle.images.specs.declared.Form.the-variants.{Radio}
 use Rattle.image_reader.specs.declared.Read.the-variants.{Table, Refused}
 use Rattle.pack_reader.specs.Walk.{refusalIn}
-use Rattle.pack_reader.proofs.Walk.{front, rest-of}
+use Rattle.tables.proofs.Over.{rest-is}
+use Rattle.pack_reader.proofs.Walk.{front}
 use Rattle.pack_reader.proofs.Judging.{Judging, judging-begin, judging-refused, few-rows, few-events, image-inside, judging-next, judging-more, judging-end}
 use native.Mathlib.Omega.{arith}
 use Rattle.pack_reader.proofs.judge.Statement.{statement}
@@ -28,52 +29,52 @@ returns c =
     let a = c .before .before .before .before .before .before .before .before .args in
     let b = a .pack .now in
     let l = c .before .before .before .before .before .before .loop in
-    let e = sym (c .before .before .before .open-image .ensures ∙ ap front (rest-of b (l .at))) ∙ c .before .enum-told .given .1 in
+    let e = sym (c .before .before .before .open-image .ensures ∙ ap front (rest-is b (l .at))) ∙ c .before .enum-told .given .1 in
     c .refusal .ensures ∙ ap (refusalIn (length b)) (c .before .enum-told .given .1) ∙ sym (judging-refused (l .inv) (omega arith) _ _ e)
 
 cast-image-length : tie.Need-cast-image-length Inv-loop μ-loop
 cast-image-length c =
     let b = c .before .before .before .before .before .before .before .before .args .pack .now in
     let l = c .before .before .before .before .before .before .loop in
-    let e = sym (c .before .before .before .open-image .ensures ∙ ap front (rest-of b (l .at))) ∙ c .before .read .given .1 in
-    record { fits = omega (arith, few-rows (l .inv) (omega arith) (λ i. omega (arith, c .before .before .before .before .before .before .before .shared-slice-known .given i)) _ _ _ e) }
+    let e = sym (c .before .before .before .open-image .ensures ∙ ap front (rest-is b (l .at))) ∙ c .before .read .given .1 in
+    record { fits = omega (arith, few-rows (l .inv) (c .before .before .before .before .before .loop-test .taken) (λ i. omega (arith, c .before .before .before .before .before .before .before .shared-slice-known .given i .fits)) _ _ _ e) }
 
 cast-image-length-2 : tie.Need-cast-image-length-2 Inv-loop μ-loop
 cast-image-length-2 c =
     let b = c .before .before .before .before .before .before .before .before .args .pack .now in
     let l = c .before .before .before .before .before .before .loop in
-    let e = sym (c .before .before .before .open-image .ensures ∙ ap front (rest-of b (l .at))) ∙ c .before .read .given .1 in
-    record { fits = omega (arith, few-events (l .inv) (omega arith) (λ i. omega (arith, c .before .before .before .before .before .before .before .shared-slice-known .given i)) _ _ _ e) }
+    let e = sym (c .before .before .before .open-image .ensures ∙ ap front (rest-is b (l .at))) ∙ c .before .read .given .1 in
+    record { fits = omega (arith, few-events (l .inv) (c .before .before .before .before .before .loop-test .taken) (λ i. omega (arith, c .before .before .before .before .before .before .before .shared-slice-known .given i .fits)) _ _ _ e) }
 
 add-at : tie.Need-add-at Inv-loop μ-loop
 add-at c =
     let b = c .before .before .before .before .before .before .before .before .before .args .pack .now in
     let l = c .before .before .before .before .before .before .before .loop in
-    let e = sym (c .before .before .before .before .open-image .ensures ∙ ap front (rest-of b (l .at))) ∙ c .before .before .read .given .1 in
-    record { fits = omega (arith, c .image-length .ensures, image-inside (l .inv) (omega arith) (λ i. omega (arith, c .before .before .before .before .before .before .before .before .shared-slice-known .given i)) _ _ _ e) }
+    let e = sym (c .before .before .before .before .open-image .ensures ∙ ap front (rest-is b (l .at))) ∙ c .before .before .read .given .1 in
+    record { fits = omega (arith, c .image-length .ensures, image-inside (l .inv) (c .before .before .before .before .before .before .loop-test .taken) (λ i. omega (arith, c .before .before .before .before .before .before .before .before .shared-slice-known .given i .fits)) _ _ _ e) }
 
 mul-cells : tie.Need-mul-cells Inv-loop μ-loop
 mul-cells c =
     let b = c .before .before .before .before .before .before .before .before .before .args .pack .now in
     let l = c .before .before .before .before .before .before .before .loop in
-    let e = sym (c .before .before .before .before .open-image .ensures ∙ ap front (rest-of b (l .at))) ∙ c .before .before .read .given .1 in
-    let n = judging-next (l .inv) (omega arith) (λ i. omega (arith, c .before .before .before .before .before .before .before .before .shared-slice-known .given i)) _ _ _ e in
+    let e = sym (c .before .before .before .before .open-image .ensures ∙ ap front (rest-is b (l .at))) ∙ c .before .before .read .given .1 in
+    let n = judging-next (l .inv) (c .before .before .before .before .before .before .loop-test .taken) (λ i. omega (arith, c .before .before .before .before .before .before .before .before .shared-slice-known .given i .fits)) _ _ _ e in
     record { fits = omega (arith, n .few-cells) }
 
 add-cells : tie.Need-add-cells Inv-loop μ-loop
 add-cells c =
     let b = c .before .before .before .before .before .before .before .before .before .args .pack .now in
     let l = c .before .before .before .before .before .before .before .loop in
-    let e = sym (c .before .before .before .before .open-image .ensures ∙ ap front (rest-of b (l .at))) ∙ c .before .before .read .given .1 in
-    let n = judging-next (l .inv) (omega arith) (λ i. omega (arith, c .before .before .before .before .before .before .before .before .shared-slice-known .given i)) _ _ _ e in
+    let e = sym (c .before .before .before .before .open-image .ensures ∙ ap front (rest-is b (l .at))) ∙ c .before .before .read .given .1 in
+    let n = judging-next (l .inv) (c .before .before .before .before .before .before .loop-test .taken) (λ i. omega (arith, c .before .before .before .before .before .before .before .before .shared-slice-known .given i .fits)) _ _ _ e in
     record { fits = omega (arith, n .few-cells) }
 
 add-marks : tie.Need-add-marks Inv-loop μ-loop
 add-marks c =
     let b = c .before .before .before .before .before .before .before .before .before .before .args .pack .now in
     let l = c .before .before .before .before .before .before .before .before .loop in
-    let e = sym (c .before .before .before .before .before .open-image .ensures ∙ ap front (rest-of b (l .at))) ∙ c .before .before .before .read .given .1 in
-    let n = judging-next (l .inv) (omega arith) (λ i. omega (arith, c .before .before .before .before .before .before .before .before .before .shared-slice-known .given i)) _ _ _ e in
+    let e = sym (c .before .before .before .before .before .open-image .ensures ∙ ap front (rest-is b (l .at))) ∙ c .before .before .before .read .given .1 in
+    let n = judging-next (l .inv) (c .before .before .before .before .before .before .before .loop-test .taken) (λ i. omega (arith, c .before .before .before .before .before .before .before .before .before .shared-slice-known .given i .fits)) _ _ _ e in
     record { fits = omega (arith, c .mark-bytes .ensures, n .few-marks) }
 
 loop-again : tie.Need-loop-again Inv-loop μ-loop
@@ -81,8 +82,8 @@ loop-again c =
     let a = c .before .before .before .before .before .before .before .before .before .before .args in
     let b = a .pack .now in
     let l = c .before .before .before .before .before .before .before .before .loop in
-    let e = sym (c .before .before .before .before .before .open-image .ensures ∙ ap front (rest-of b (l .at))) ∙ c .before .before .before .read .given .1 in
-    let n = judging-next (l .inv) (omega arith) (λ i. omega (arith, c .before .before .before .before .before .before .before .before .before .shared-slice-known .given i)) _ _ _ e in
+    let e = sym (c .before .before .before .before .before .open-image .ensures ∙ ap front (rest-is b (l .at))) ∙ c .before .before .before .read .given .1 in
+    let n = judging-next (l .inv) (c .before .before .before .before .before .before .before .loop-test .taken) (λ i. omega (arith, c .before .before .before .before .before .before .before .before .before .shared-slice-known .given i .fits)) _ _ _ e in
     rw (add-one, c .before .image-length .ensures, c .mark-bytes .ensures) n
 
 returns-2 : tie.Need-returns-2 Inv-loop μ-loop
@@ -98,7 +99,6 @@ returns-3 c =
 pub judge-spec : {M : Type 1} → statement M
 judge-spec =
     tie.close
-    
     (tie.spec
     Inv-loop
     μ-loop

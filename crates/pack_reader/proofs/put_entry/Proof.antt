@@ -1,5 +1,5 @@
 use lib.ListN.{length-set}
-use Rattle.pack_reader.proofs.Reading.{over-three}
+use Rattle.tables.proofs.Over.{over-three}
 use native.Mathlib.Omega.{arith}
 use borrow.Author.Needs.{needs}
 use Rattle.pack_reader.proofs.put_entry.Statement.{statement}
@@ -19,7 +19,6 @@ returns c =
 pub put-entry-spec : {M : Type 1} → statement M
 put-entry-spec =
     tie.close
-    
     (tie.spec
     (λ c. search needs)
     (λ c. search needs)

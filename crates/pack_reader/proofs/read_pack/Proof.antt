@@ -35,7 +35,7 @@ returns-3 c =
     let a = c .before .before .before .before .before .before .before .before .before .before .before .before .before .before .before .args in
     let b = a .pack .now in
     let k = counted b _ _ (sym (c .before .before .before .before .before .before .before .before .before .before .number .ensures) ∙ c .before .before .before .before .before .before .before .before .head .given .1) (sym (c .before .before .before .before .before .before .beyond .ensures .0) ∙ c .before .before .before .before .before .if1 .left) in
-    let n = needed k (λ i. omega (arith, c .before .before .before .before .before .before .before .before .before .before .before .before .before .before .shared-slice-known .given i)) _ _ (sym (c .before .before .before .before .judge .ensures) ∙ c .before .before .needs2 .given .1) in
+    let n = needed k (λ i. c .before .before .before .before .before .before .before .before .before .before .before .before .before .before .shared-slice-known .given i .fits) _ _ (sym (c .before .before .before .before .judge .ensures) ∙ c .before .before .needs2 .given .1) in
     short-list b (a .list .now) (a .cells .now) (a .marks .now) _ (n .is) (omega (arith, n .many))
 
 returns-4 : tie.Need-returns-4
@@ -43,7 +43,7 @@ returns-4 c =
     let a = c .before .before .before .before .before .before .before .before .before .before .before .before .before .before .before .before .args in
     let b = a .pack .now in
     let k = counted b _ _ (sym (c .before .before .before .before .before .before .before .before .before .before .before .number .ensures) ∙ c .before .before .before .before .before .before .before .before .before .head .given .1) (sym (c .before .before .before .before .before .before .before .beyond .ensures .0) ∙ c .before .before .before .before .before .before .if1 .left) in
-    let n = needed k (λ i. omega (arith, c .before .before .before .before .before .before .before .before .before .before .before .before .before .before .before .shared-slice-known .given i)) _ _ (sym (c .before .before .before .before .before .judge .ensures) ∙ c .before .before .before .needs2 .given .1) in
+    let n = needed k (λ i. c .before .before .before .before .before .before .before .before .before .before .before .before .before .before .before .shared-slice-known .given i .fits) _ _ (sym (c .before .before .before .before .before .judge .ensures) ∙ c .before .before .before .needs2 .given .1) in
     short-cells b (a .list .now) (a .cells .now) (a .marks .now) _ (n .is) (omega (arith, n .cells-are))
 
 returns-5 : tie.Need-returns-5
@@ -51,7 +51,7 @@ returns-5 c =
     let a = c .before .before .before .before .before .before .before .before .before .before .before .before .before .before .before .before .before .args in
     let b = a .pack .now in
     let k = counted b _ _ (sym (c .before .before .before .before .before .before .before .before .before .before .before .before .number .ensures) ∙ c .before .before .before .before .before .before .before .before .before .before .head .given .1) (sym (c .before .before .before .before .before .before .before .before .beyond .ensures .0) ∙ c .before .before .before .before .before .before .before .if1 .left) in
-    let n = needed k (λ i. omega (arith, c .before .before .before .before .before .before .before .before .before .before .before .before .before .before .before .before .shared-slice-known .given i)) _ _ (sym (c .before .before .before .before .before .before .judge .ensures) ∙ c .before .before .before .before .needs2 .given .1) in
+    let n = needed k (λ i. c .before .before .before .before .before .before .before .before .before .before .before .before .before .before .before .before .shared-slice-known .given i .fits) _ _ (sym (c .before .before .before .before .before .before .judge .ensures) ∙ c .before .before .before .before .needs2 .given .1) in
     short-marks b (a .list .now) (a .cells .now) (a .marks .now) _ (n .is) (omega (arith, n .marks-are))
 
 take-images-requires : tie.Need-take-images-requires
@@ -59,7 +59,7 @@ take-images-requires c κs =
     let a = c .before .before .before .before .before .before .before .before .before .before .before .before .before .before .before .before .before .before .before .before .args in
     let b = a .pack .now in
     let k = counted b _ _ (sym (c .before .before .before .before .before .before .before .before .before .before .before .before .before .before .before .number .ensures) ∙ c .before .before .before .before .before .before .before .before .before .before .before .before .before .head .given .1) (sym (c .before .before .before .before .before .before .before .before .before .before .before .beyond .ensures .0) ∙ c .before .before .before .before .before .before .before .before .before .before .if1 .left) in
-    let n = needed k (λ i. omega (arith, c .before .before .before .before .before .before .before .before .before .before .before .before .before .before .before .before .before .before .before .shared-slice-known .given i)) _ _ (sym (c .before .before .before .before .before .before .before .before .before .judge .ensures) ∙ c .before .before .before .before .before .before .before .needs2 .given .1) in
+    let n = needed k (λ i. c .before .before .before .before .before .before .before .before .before .before .before .before .before .before .before .before .before .before .before .shared-slice-known .given i .fits) _ _ (sym (c .before .before .before .before .before .before .before .before .before .judge .ensures) ∙ c .before .before .before .before .before .before .before .needs2 .given .1) in
     (k .two, k .few, record { found = n .found; list-room = omega (arith, n .many); cells-room = omega (arith, n .cells-are); marks-room = omega (arith, n .marks-are) })
 
 returns-6 : tie.Need-returns-6
@@ -74,7 +74,7 @@ returns-7 c =
     let a = c .before .before .before .before .before .before .before .before .before .before .before .before .before .before .before .before .before .before .before .before .before .before .before .before .before .before .before .args in
     let b = a .pack .now in
     let k = counted b _ _ (sym (c .before .before .before .before .before .before .before .before .before .before .before .before .before .before .before .before .before .before .before .before .before .before .number .ensures) ∙ c .before .before .before .before .before .before .before .before .before .before .before .before .before .before .before .before .before .before .before .before .head .given .1) (sym (c .before .before .before .before .before .before .before .before .before .before .before .before .before .before .before .before .before .before .beyond .ensures .0) ∙ c .before .before .before .before .before .before .before .before .before .before .before .before .before .before .before .before .before .if1 .left) in
-    let n = needed k (λ i. omega (arith, c .before .before .before .before .before .before .before .before .before .before .before .before .before .before .before .before .before .before .before .before .before .before .before .before .before .before .shared-slice-known .given i)) _ _ (sym (c .before .before .before .before .before .before .before .before .before .before .before .before .before .before .before .before .judge .ensures) ∙ c .before .before .before .before .before .before .before .before .before .before .before .before .before .before .needs2 .given .1) in
+    let n = needed k (λ i. c .before .before .before .before .before .before .before .before .before .before .before .before .before .before .before .before .before .before .before .before .before .before .before .before .before .before .shared-slice-known .given i .fits) _ _ (sym (c .before .before .before .before .before .before .before .before .before .before .before .before .before .before .before .before .judge .ensures) ∙ c .before .before .before .before .before .before .before .before .before .before .before .before .before .before .needs2 .given .1) in
     let u = unpacks-tables b (a .list .now) (a .cells .now) (a .marks .now) _ (n .is) (omega (arith, n .many)) (omega (arith, n .cells-are)) (omega (arith, n .marks-are)) in
     let t = c .before .before .before .before .before .before .take-images .ensures in
     (ap Tables (sym (n .many)) ∙ u .0, t .0 ∙ u .1, t .1 ∙ u .2, t .2 ∙ u .3)
@@ -82,7 +82,6 @@ returns-7 c =
 pub read-pack-spec : {M : Type 1} → statement M
 read-pack-spec =
     tie.close
-    
     (tie.spec
     (λ c κs. search needs)
     (λ c. search needs)

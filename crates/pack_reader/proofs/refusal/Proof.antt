@@ -11,7 +11,7 @@ returns-3 : tie.Need-returns-3
 returns-3 c = simp (c .before .before .read .given .1, ne-eqb _ _ (c .if1 .left))
 
 pub refusal-spec : {M : Type 1} → statement M
-refusal-spec = tie.close 
+refusal-spec = tie.close
     (tie.spec
     (λ c. search needs)
     (λ c. search needs)

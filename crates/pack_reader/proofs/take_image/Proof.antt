@@ -4,12 +4,12 @@ use mathlib.Core.List.{List}
 use Prim.Native.Nat.{ℕ, _-_}
 use lib.ListN.{length, take, drop}
 use Rattle.rules.specs.Rules.{winch}
+use Rattle.tables.proofs.Over.{rest, rest-is, rest-length}
 use Rattle.images.specs.Image.{cellsOf, marksOf}
 use Rattle.images.specs.declared.Form.the-variants.{Radio}
 use Rattle.image_reader.specs.Read.{anyRows, readAs}
 use Rattle.pack_reader.specs.Walk.{partFrom}
-use Rattle.pack_reader.proofs.Walk.{rest-of}
-use Rattle.pack_reader.proofs.Reading.{rest, rest-length, rest-from, cells-part, marks-part}
+use Rattle.pack_reader.proofs.Reading.{rest-from, cells-part, marks-part}
 use native.Mathlib.Omega.{arith}
 use borrow.Author.Needs.{needs}
 use Rattle.pack_reader.proofs.take_image.Statement.{statement}
@@ -24,7 +24,7 @@ returns c =
     let b = drop (a .at) image in
     let f = c .before .before .before .before .read-form in
     let w = f .ensures in
-    let same = rest-of image (a .at) in (
+    let same = rest-is image (a .at) in (
       w .0 ∙ ap (λ (l : List ℕ). readAs false Radio winch anyRows l (length (rest given (a .c))) (length (rest bytes (a .m)))) same
           ∙ ap₂ (readAs false Radio winch anyRows b) (rest-length given (a .c)) (rest-length bytes (a .m)),
       rest-from given (a .c) (f .result) (λ rows events. cellsOf Radio b rows events) _
@@ -36,7 +36,6 @@ returns c =
 pub take-image-spec : {M : Type 1} → statement M
 take-image-spec =
     tie.close
-    
     (tie.spec
     (λ c. search needs)
     (λ c. search needs)

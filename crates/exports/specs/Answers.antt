@@ -1,0 +1,25 @@
+-- Answers as four numbers, for C: 0 and the values of success, or the number of the rule broken and the place; the others are 0.
+use mathlib.Core.List.{List, [], _∷_}
+use Prim.Native.Nat.{ℕ}
+use Rattle.image_writer.specs.declared.Written.{Written}
+use Rattle.image_writer.specs.declared.Written.the-variants as write
+use Rattle.image_reader.specs.declared.Read.{Read}
+use Rattle.image_reader.specs.declared.Read.the-variants as read
+use Rattle.pack_reader.specs.declared.Unpacked.{Unpacked}
+use Rattle.pack_reader.specs.declared.Unpacked.the-variants as unpack
+
+abbrev pub four : ℕ → ℕ → ℕ → ℕ → List ℕ
+four a b c d = a ∷ b ∷ c ∷ d ∷ []
+
+-- A length, a table's rows, events and start, or a number of tables.
+abbrev pub ofWritten : Written → List ℕ
+ofWritten (write.Length n) = four 0 n 0 0
+ofWritten (write.Refused number place) = four number place 0 0
+
+abbrev pub ofRead : Read → List ℕ
+ofRead (read.Table rows events start) = four 0 rows events start
+ofRead (read.Refused number place) = four number place 0 0
+
+abbrev pub ofUnpacked : Unpacked → List ℕ
+ofUnpacked (unpack.Tables n) = four 0 n 0 0
+ofUnpacked (unpack.Refused number place) = four number place 0 0
