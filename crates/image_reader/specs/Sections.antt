@@ -2,8 +2,8 @@
 use mathlib.Core.Bool.{Bool, not}
 use mathlib.Core.List.{List, [], _∷_}
 use Prim.Native.Nat.{ℕ, _+_, _*_, _/_, _%_}
-use lib.Dec.{eqb, ltb}
-use lib.ListN.{length, getD}
+use lib.Dec.{eqb}
+use lib.ListN.{getD}
 use Rattle.tables.specs.Table.{markBytes}
 use Rattle.rules.specs.Rules.{rule, judged, rowsRule, eventsRule, rowRule, spareRule}
 use Rattle.rules.specs.declared.Limits.{Limits}

@@ -2,20 +2,18 @@
 use mathlib.Core.Path.{_≡_, refl, sym, ap, _∙_}
 use mathlib.Core.Bool.{false}
 use mathlib.Core.List.{List, [], _∷_}
-use mathlib.Core.Logic.{_↔_}
 use Prim.Native.Nat.{ℕ, _/_, _≤_, _<_}
-use native.Mathlib.Omega.{arith}
 use borrow.Author.Tests.{lt-ltb, le-ltb}
 use lib.ListN.{length, getD}
 use Rattle.steps.specs.Steps.{stepOf}
 use Rattle.tables.specs.Table.{Table}
 use Rattle.tables.specs.Lists.{tabulate}
 use Rattle.tables.proofs.Lists.{tabulate-length, tabulate-at}
-use Rattle.rules.specs.Rules.{judged, winch, roomRule, tableChecks}
+use Rattle.rules.specs.Rules.{judged, winch, roomRule}
 use Rattle.rules.specs.declared.Verdict.{Verdict}
 use Rattle.rules.specs.declared.Verdict.the-variants.{Fine, Refused}
 use Rattle.rules.proofs.Checks.{unbroken, passed, none-passes}
-use Rattle.rules.proofs.First.{room-broken, room-kept, parts}
+use Rattle.rules.proofs.First.{parts}
 use Rattle.rules.proofs.Judged.{refused-first, fine-first}
 use Rattle.rules.proofs.Shape.{Shape, table-fine}
 use Rattle.images.specs.Image.{imageLength, far, tooFar, Fits}

@@ -1,6 +1,6 @@
 -- The first walk: what all the images need is what those before the place need and, more, those from it on.
 use mathlib.Core.Path.{_≡_, refl, sym, ap, ap₂, _∙_}
-use mathlib.Core.List.{List, []}
+use mathlib.Core.List.{List}
 use Prim.Native.Nat.{ℕ, suc, _+_, _-_, _*_, _≤_, _<_}
 use native.Mathlib.Nat.{add-assoc, mul-le-mul}
 use native.Mathlib.Omega.{arith}

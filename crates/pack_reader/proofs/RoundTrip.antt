@@ -10,7 +10,7 @@ use lib.ListN.{length, drop}
 use lib.Seq.{drop-at}
 use Rattle.automata.proofs.Tests.{clash}
 use Rattle.tables.specs.Table.{Table}
-use Rattle.rules.specs.Rules.{judged, outside}
+use Rattle.rules.specs.Rules.{judged}
 use Rattle.rules.specs.declared.Verdict.{Verdict}
 use Rattle.rules.specs.declared.Verdict.the-variants.{Fine, Refused}
 use Rattle.rules.proofs.Checks.{unbroken, passed, inside}

@@ -1,8 +1,8 @@
 -- The second walk: list, cells and mark bytes are filled table by table.
 use mathlib.Core.Path.{_≡_, refl, sym, ap, _∙_}
-use mathlib.Core.Bool.{true, false, _||_}
+use mathlib.Core.Bool.{false, _||_}
 use mathlib.Core.List.{List, [], _∷_, _++_}
-use Prim.Native.Nat.{ℕ, zero, suc, _+_, _-_, _*_, _≤_, _<_}
+use Prim.Native.Nat.{ℕ, suc, _+_, _-_, _*_, _≤_, _<_}
 use native.Mathlib.Omega.{arith}
 use borrow.Author.Tests.{le-ltb}
 use lib.Dec.{ltb}
@@ -25,7 +25,7 @@ use Rattle.packs.proofs.Images.{sendable-laid}
 use Rattle.packs.proofs.Filling.{Filling, filling-begin, filling-room, filling-next, filling-end}
 use Rattle.pack_reader.specs.Read.{Found, tables, imagesRead}
 use Rattle.pack_reader.specs.Walk.{tablesOf, Fitting}
-use Rattle.pack_reader.proofs.Walk.{front, next-of, front-sendable, front-whole, images-next, images-open, images-end, images-hold, found-tables, with-tables}
+use Rattle.pack_reader.proofs.Walk.{front, next-of, front-sendable, front-whole, images-next, images-open, images-hold, with-tables}
 
 -- What is found from a place on, with so many images left.
 abbrev pub left : List ℕ → ℕ → ℕ → Found

@@ -1,14 +1,13 @@
 -- One image after another: what is found with the next one.
-use mathlib.Core.Path.{_≡_, refl, sym, ap, ap₂, _∙_}
+use mathlib.Core.Path.{_≡_, refl, sym, ap, _∙_}
 use mathlib.Core.Bool.{false}
 use mathlib.Core.List.{List, [], _∷_, _++_}
 use Prim.Native.Nat.{ℕ, zero, suc, _+_, _≤_, _<_}
 use native.Mathlib.Omega.{arith}
 use borrow.Author.Tests.{lt-ltb, le-ltb}
-use lib.Dec.{ltb}
 use lib.ListN.{length, drop}
 use lib.Seq.{drop-drop}
-use Rattle.tables.specs.Table.{Table, Valid, markBytes}
+use Rattle.tables.specs.Table.{Table}
 use Rattle.rules.specs.Rules.{winch}
 use Rattle.images.specs.Image.{radioImage, imageLength, tableAs}
 use Rattle.images.specs.declared.Form.the-variants.{Radio}

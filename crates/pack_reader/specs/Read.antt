@@ -1,5 +1,5 @@
 -- What the pack reader checks, answers and leaves in the lent list, cells and mark bytes.
-use mathlib.Core.Bool.{Bool, true, false, cond, _||_}
+use mathlib.Core.Bool.{false, cond, _||_}
 use mathlib.Core.List.{List, [], _∷_}
 use Prim.Native.Nat.{ℕ, zero, suc, _*_}
 use lib.Dec.{eqb, ltb}
@@ -14,7 +14,7 @@ use Rattle.images.specs.declared.Form.the-variants.{Radio}
 use Rattle.image_reader.specs.Read.{cutRule, anyRows, readOf}
 use Rattle.image_reader.specs.declared.Read.{Read}
 use Rattle.image_reader.specs.declared.Read.the-variants as read
-use Rattle.packs.specs.Pack.{listOf, cellsOf, marksOf, cellsNeeded, marksNeeded, countRule}
+use Rattle.packs.specs.Pack.{listOf, cellsNeeded, marksNeeded, countRule}
 use Rattle.pack_reader.specs.declared.Unpacked.{Unpacked}
 use Rattle.pack_reader.specs.declared.Unpacked.the-variants as answer
 

@@ -22,7 +22,7 @@ pub enum Unpacked {
 }
 
 // How many cells and mark bytes the tables of a pack need, or the number and place of the first rule broken.
-pub enum Needs {
+enum Needs {
     Room(usize, usize),
     Refused(usize, usize),
 }
@@ -115,6 +115,7 @@ fn take_images(pack: &[u8], count: usize, list: &mut [u16], cells: &mut [u16], m
     while i < count {
         let read = take_image(pack, at, cells, c, marks, m);
         let Read::Table(rows, events, start) = read else {
+            // Never: all was judged before.
             return;
         };
         put_entry(list, 3 * i, rows, events, start);

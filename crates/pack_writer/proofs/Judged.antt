@@ -9,7 +9,7 @@ use Rattle.tables.specs.Table.{Table, markBytes}
 use Rattle.tables.proofs.Over.{part-length}
 use Rattle.rules.specs.Rules.{andThen, judged, rowRule, contentChecks, tableOf}
 use Rattle.rules.specs.declared.Verdict.{Verdict}
-use Rattle.rules.specs.declared.Verdict.the-variants.{Fine, Refused}
+use Rattle.rules.specs.declared.Verdict.the-variants.{Fine}
 use Rattle.rules.proofs.Checks.{inside}
 use Rattle.rules.proofs.First.{both-fine, fine-valid, valid-then}
 use Rattle.rules.proofs.Judged.{judged-append}

@@ -1,12 +1,11 @@
 -- Tables one after another: laid out and read back.
 use mathlib.Core.Path.{_≡_, refl, sym, ap, ap₂, _∙_}
 use mathlib.Core.List.{List, [], _∷_, _++_}
-use Prim.Native.Nat.{ℕ, suc, _+_, _*_, _%_, _≤_, _<_}
+use Prim.Native.Nat.{ℕ, _+_, _*_, _%_}
 use native.Mathlib.Omega.{arith}
 use lib.ListN.{length, take, drop, length-append, length-drop, take-append-drop}
-use lib.Seq.{take-at, drop-at, take-all}
+use lib.Seq.{take-at, drop-at}
 use Rattle.tables.specs.Table.{Table, markBytes}
-use Rattle.rules.specs.Rules.{tableOf}
 use Rattle.packs.specs.Pack.{tablesIn, listOf, cellsOf, marksOf, total, cellsNeeded, marksNeeded, Every}
 
 -- A table with as many cells and mark bytes as it says.

@@ -1,6 +1,5 @@
 use mathlib.Core.Path.{sym, ap, _∙_}
 use Rattle.exports.specs.Answers.{ofRead}
-use native.Mathlib.Omega.{arith}
 use borrow.Author.Needs.{needs}
 use Rattle.exports.proofs.put_read.Statement.{statement}
 use Rattle.exports.proofs.put_read.Tie as tie

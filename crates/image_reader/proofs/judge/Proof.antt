@@ -3,7 +3,6 @@ use Rattle.image_reader.specs.declared.Read.the-variants.{Table}
 use Rattle.image_reader.specs.Read.{atMost}
 use Rattle.image_reader.specs.Sections.{sectionsRead}
 use Rattle.image_reader.proofs.Sections.{refuses-read, marks-got, more-follows, none-follows}
-use native.Mathlib.Omega.{arith}
 use borrow.Author.Needs.{needs}
 use Rattle.image_reader.proofs.judge.Statement.{statement}
 use Rattle.image_reader.proofs.judge.Tie as tie

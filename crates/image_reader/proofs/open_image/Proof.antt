@@ -4,7 +4,6 @@ use Rattle.rules.specs.Rules.{winch}
 use Rattle.rules.specs.declared.Limits.{Limits}
 use Rattle.image_reader.specs.Read.{atMost, readOf}
 use Rattle.image_reader.proofs.Order.{image-order, no-twelve}
-use native.Mathlib.Omega.{arith}
 use borrow.Author.Needs.{needs}
 use Rattle.image_reader.proofs.open_image.Statement.{statement}
 use Rattle.image_reader.proofs.open_image.Tie as tie

@@ -7,7 +7,7 @@ use Rattle.tables.specs.Table.{markBytes}
 use Rattle.tables.specs.Lists.{over}
 use Rattle.automata.proofs.Tests.{or-left, or-right}
 use Rattle.images.specs.Image as Image
-use Rattle.images.specs.Image.{targetAt, cellsAt, targetsAt}
+use Rattle.images.specs.Image.{cellsAt, targetsAt}
 use Rattle.image_reader.specs.Read.{atMost, readOf}
 use Rattle.image_reader.specs.declared.Read.the-variants.{Table}
 use Rattle.image_reader.proofs.Order.{image-order}

@@ -5,7 +5,6 @@ use Rattle.rules.specs.declared.Limits.{Limits}
 use Rattle.image_reader.specs.declared.Read.{Read}
 use Rattle.image_reader.specs.Read.{atMost, roomed, readAs}
 use Rattle.image_reader.proofs.Order.{no-twelve}
-use native.Mathlib.Omega.{arith}
 use borrow.Author.Needs.{needs}
 use Rattle.image_reader.proofs.read_form.Statement.{statement}
 use Rattle.image_reader.proofs.read_form.Tie as tie

@@ -1,6 +1,5 @@
 use mathlib.Core.Path.{sym}
 use borrow.Author.Tests.{lt-ltb, le-ltb}
-use native.Mathlib.Omega.{arith}
 use borrow.Author.Needs.{needs}
 use Rattle.image_writer.proofs.check_targets.Statement.{statement}
 use Rattle.image_writer.proofs.check_targets.Tie as tie

@@ -4,7 +4,6 @@ use Rattle.steps.specs.declared.Step.{Step}
 use Rattle.tables.specs.Lists.{over}
 use Rattle.images.specs.Image.{number, stepBytes, targetBytes}
 use Rattle.images.specs.declared.Form.{Form}
-use native.Mathlib.Omega.{arith}
 use borrow.Author.Needs.{needs}
 use Rattle.image_writer.proofs.put_target.Statement.{statement}
 use Rattle.image_writer.proofs.put_target.Tie as tie

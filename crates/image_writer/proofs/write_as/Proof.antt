@@ -1,5 +1,4 @@
 use mathlib.Core.Path.{refl, sym, ap, _∙_}
-use Prim.Native.Nat.{ℕ, _≤_}
 use lib.ListN.{length}
 use Rattle.rules.specs.Rules.{tableOf}
 use Rattle.rules.specs.declared.Verdict.the-variants.{Fine, Refused}

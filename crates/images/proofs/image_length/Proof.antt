@@ -1,6 +1,3 @@
-use mathlib.Core.Path.{_≡_, ap, _∙_}
-use Prim.Native.Nat.{ℕ, _+_, _*_, _≤_}
-use Rattle.tables.specs.Table.{markBytes}
 use Rattle.images.specs.Image.{width}
 use Rattle.images.proofs.Targets.{targets-most}
 use native.Mathlib.Omega.{arith}

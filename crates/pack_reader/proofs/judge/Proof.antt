@@ -1,12 +1,7 @@
-use mathlib.Core.Path.{_≡_, sym, ap, _∙_}
-use mathlib.Core.List.{List}
-use Prim.Native.Nat.{ℕ, suc, _+_, _-_, _*_, _≤_}
-use native.Mathlib.Nat.{mul-le-mul}
+use mathlib.Core.Path.{sym, ap, _∙_}
+use Prim.Native.Nat.{_-_}
 use native.Mathlib.Numerals.{add-one}
-use lib.ListN.{length, drop}
-use Rattle.images.specs.Image.{imageLength}
-use Rattle.images.specs.declared.Form.the-variants.{Radio}
-use Rattle.image_reader.specs.declared.Read.the-variants.{Table, Refused}
+use lib.ListN.{length}
 use Rattle.pack_reader.specs.Walk.{refusalIn}
 use Rattle.tables.proofs.Over.{rest-is}
 use Rattle.pack_reader.proofs.Walk.{front}

@@ -1,4 +1,4 @@
-use mathlib.Core.Path.{_≡_, sym, ap, _∙_}
+use mathlib.Core.Path.{sym, ap, _∙_}
 use lib.ListN.{length}
 use Rattle.image_reader.proofs.Sections.{number-cut}
 use Rattle.pack_reader.specs.declared.Unpacked.the-variants.{Tables}

@@ -1,5 +1,4 @@
 use borrow.Author.Tests.{ne-eqb}
-use native.Mathlib.Omega.{arith}
 use borrow.Author.Needs.{needs}
 use Rattle.pack_reader.proofs.refusal.Statement.{statement}
 use Rattle.pack_reader.proofs.refusal.Tie as tie

@@ -1,8 +1,8 @@
-use mathlib.Core.Path.{_≡_, ap, ap₂, _∙_}
+use mathlib.Core.Path.{ap, ap₂, _∙_}
 use mathlib.Core.Bool.{false}
 use mathlib.Core.List.{List}
 use Prim.Native.Nat.{ℕ, _-_}
-use lib.ListN.{length, take, drop}
+use lib.ListN.{length, drop}
 use Rattle.rules.specs.Rules.{winch}
 use Rattle.tables.proofs.Over.{rest, rest-is, rest-length}
 use Rattle.images.specs.Image.{cellsOf, marksOf}
@@ -10,7 +10,6 @@ use Rattle.images.specs.declared.Form.the-variants.{Radio}
 use Rattle.image_reader.specs.Read.{anyRows, readAs}
 use Rattle.pack_reader.specs.Walk.{partFrom}
 use Rattle.pack_reader.proofs.Reading.{rest-from, cells-part, marks-part}
-use native.Mathlib.Omega.{arith}
 use borrow.Author.Needs.{needs}
 use Rattle.pack_reader.proofs.take_image.Statement.{statement}
 use Rattle.pack_reader.proofs.take_image.Tie as tie

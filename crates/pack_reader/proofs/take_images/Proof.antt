@@ -1,13 +1,11 @@
-use mathlib.Core.Path.{_≡_, sym, ap, _∙_}
-use mathlib.Core.List.{List, [], _∷_}
-use Prim.Native.Nat.{ℕ, suc, _+_, _-_, _*_, _≤_}
+use mathlib.Core.Path.{sym, ap, _∙_}
+use Prim.Native.Nat.{_-_}
 use native.Mathlib.Numerals.{add-one}
-use lib.ListN.{length, drop}
-use Rattle.images.specs.Image.{imageLength, cellsOf, marksOf}
+use lib.ListN.{drop}
+use Rattle.images.specs.Image.{cellsOf, marksOf}
 use Rattle.images.specs.declared.Form.the-variants.{Radio}
 use Rattle.image_reader.specs.declared.Read.{Read}
 use Rattle.pack_reader.specs.Walk.{partFrom}
-use Rattle.pack_reader.proofs.Walk.{front}
 use Rattle.pack_reader.proofs.Taking.{Taking, taking-begin, roomed-table, image-inside, list-room, cells-room, marks-room, few-rows, few-events, start-in, taking-next, taking-never, taking-end}
 use native.Mathlib.Omega.{arith}
 use Rattle.pack_reader.proofs.take_images.Statement.{statement}
