@@ -65,11 +65,7 @@ module _ (b : List ℕ) (bytes : Bytes b) where
       let same : stepBytes (stepOf row (landing row (stepIn x))) ≡ x ∷ [] = ap stepBytes (step-back row x (bytes at) g) ∙ ap (λ (y : ℕ). y ∷ []) (byte-back x (bytes at)) in
       drop-cons b at 0 (omega arith) ∙ ap (λ (k : ℕ). x ∷ drop k b) (sym (add-one at)) ∙ ap (λ (l : List ℕ). l ++ drop (at + 1) b) (sym same)
 
--- A target has one byte or two.
-pub width-some : (F : Form) → 0 < width F
-width-some Plain = omega arith
-width-some Radio = omega arith
-
+-- A target has at most two bytes.
 pub width-most : (F : Form) (n : ℕ) → width F * n ≤ 2 * n
 width-most Plain n = omega arith
 width-most Radio n = omega arith

@@ -64,9 +64,6 @@ module _ (whole : ℕ) (b : List ℕ) where
 pub no-tables : {A : Type 0} {number place : ℕ} {l : List Table} → refused number place ≡ tables l → A
 no-tables e = let z : _≡_ {A = ℕ} 0 1 = cc in absurd (omega arith)
 
-pub found-tables : {F : Found} {l : List Table} → F ≡ tables l → (F ≡ tables (tablesOf F)) × (tablesOf F ≡ l)
-found-tables {F} {l} e = let same : tablesOf F ≡ l = ap tablesOf e in (e ∙ ap tables (sym same), same)
-
 -- The first of them stands in front, and the others are found behind it.
 pub with-tables : (T : Table) (F : Found) (l : List Table) → withTable T F ≡ tables l → (F ≡ tables (tablesOf F)) × (l ≡ T ∷ tablesOf F)
 with-tables T (tables m) l e = (refl, cc)
