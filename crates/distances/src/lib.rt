@@ -6,6 +6,7 @@ ghost use lib.Dec.{leb};
 ghost use lib.ListN.{length, getD};
 ghost use Rattle.tables.specs.Lists.{over};
 ghost use Rattle.rules.specs.Rules.{tableOf};
+ghost use Rattle.row_starts.specs.RowStarts.{rowStarts};
 ghost use Rattle.scratch.specs.Scratch.{pairAt, weightBy, workable};
 ghost use Rattle.distances.specs.Distances.{distanceCells, measured};
 ghost use Rattle.distances.specs.Search.{eventsBy, machineBy, Tested, Fits, Given, Begun, Visited, RowSwept, Swept, Settled, Ready, Risen, Lowered};
@@ -22,17 +23,19 @@ fn event_fits(
     mask: u32,
     events: u16,
     cells: &[u16],
+    starts: &[u32],
     scratch: &[u16],
     level: u16,
     q: u16,
     p: u16,
     event: u16,
 ) -> bool
+    requires { ⌜ now starts ≡ rowStarts ⌝ }
     ensures { λ r. ⌜ r ≡ leb (pairAt (now (scratch .entry)) (getD (now (cells .entry)) (q * events + event) 0) (getD (now (cells .entry)) (p * events + event) 0)) (level - weightBy mask event) ⌝ }
 {
     let i = scratch::target(cells, events, q, event);
     let j = scratch::target(cells, events, p, event);
-    scratch::pair(scratch, i, j) <= less(level, scratch::weight(mask, event))
+    scratch::pair(starts, scratch, i, j) <= less(level, scratch::weight(mask, event))
 }
 
 // Whether the level fits rows q and p.
@@ -42,11 +45,13 @@ fn pair_fits(
     events: u16,
     cells: &[u16],
     marks: &[u8],
+    starts: &[u32],
     scratch: &[u16],
     level: u16,
     q: u16,
     p: u16,
 ) -> bool
+    requires { ⌜ now starts ≡ rowStarts ⌝ }
     ensures { λ r. ⌜ Tested r (Fits (eventsBy mask events) (machineBy rows events (now (cells .entry)) (now (marks .entry))) (pairAt (now (scratch .entry))) level q p) ⌝ }
 {
     if level == 0 {
@@ -56,7 +61,7 @@ fn pair_fits(
     }
     let mut event = 0;
     while event < events {
-        if !event_fits(mask, events, cells, scratch, level, q, p, event) {
+        if !event_fits(mask, events, cells, starts, scratch, level, q, p, event) {
             return false;
         }
         event += 1;
@@ -71,20 +76,33 @@ fn visit(
     events: u16,
     cells: &[u16],
     marks: &[u8],
+    starts: &[u32],
     scratch: &mut [u16],
     level: u16,
     q: u16,
     p: u16,
 ) -> bool
+    requires { ⌜ now starts ≡ rowStarts ⌝ }
     requires { ⌜ Begun (eventsBy mask events) (machineBy rows events (now cells) (now marks)) level (now scratch) ⌝ }
     requires { ⌜ (q < rows) × (p < q) ⌝ }
     ensures { λ r. ⌜ Visited (eventsBy mask events) (machineBy rows events (now (cells .entry)) (now (marks .entry))) level q p (now (scratch .entry)) (now (scratch .exit)) r ⌝ }
 {
-    let at = scratch::row_start(q) + rules::wide(p);
+    let at = scratch::row_start(starts, q) + rules::wide(p);
     if scratch::cell(scratch, at) != level {
         return false;
     }
-    if pair_fits(mask, rows, events, cells, marks, scratch, level, q, p) {
+    if pair_fits(
+        mask,
+        rows,
+        events,
+        cells,
+        marks,
+        starts,
+        scratch,
+        level,
+        q,
+        p,
+    ) {
         return false;
     }
     scratch::put(scratch, at, 65535);
@@ -98,10 +116,12 @@ fn sweep_row(
     events: u16,
     cells: &[u16],
     marks: &[u8],
+    starts: &[u32],
     scratch: &mut [u16],
     level: u16,
     q: u16,
 ) -> bool
+    requires { ⌜ now starts ≡ rowStarts ⌝ }
     requires { ⌜ Begun (eventsBy mask events) (machineBy rows events (now cells) (now marks)) level (now scratch) ⌝ }
     requires { ⌜ q < rows ⌝ }
     ensures { λ r. ⌜ RowSwept (eventsBy mask events) (machineBy rows events (now (cells .entry)) (now (marks .entry))) level q (now (scratch .entry)) (now (scratch .exit)) r ⌝ }
@@ -109,7 +129,18 @@ fn sweep_row(
     let mut changed = false;
     let mut p = 0;
     while p < q {
-        let hit = visit(mask, rows, events, cells, marks, scratch, level, q, p);
+        let hit = visit(
+            mask,
+            rows,
+            events,
+            cells,
+            marks,
+            starts,
+            scratch,
+            level,
+            q,
+            p,
+        );
         p += 1;
         if hit {
             changed = true;
@@ -131,10 +162,11 @@ fn sweep(
     requires { ⌜ Begun (eventsBy mask events) (machineBy rows events (now cells) (now marks)) level (now scratch) ⌝ }
     ensures { λ r. ⌜ Swept (eventsBy mask events) (machineBy rows events (now (cells .entry)) (now (marks .entry))) level (now (scratch .entry)) (now (scratch .exit)) r ⌝ }
 {
+    let starts = row_starts::table();
     let mut changed = false;
     let mut q = 0;
     while q < rows {
-        let hit = sweep_row(mask, rows, events, cells, marks, scratch, level, q);
+        let hit = sweep_row(mask, rows, events, cells, marks, &starts, scratch, level, q);
         q += 1;
         if hit {
             changed = true;
@@ -204,7 +236,7 @@ fn rise(
     requires { ⌜ Ready (eventsBy mask events) (machineBy rows events (now cells) (now marks)) level (now scratch) ⌝ }
     ensures { λ r. ⌜ Risen (eventsBy mask events) (machineBy rows events (now (cells .entry)) (now (marks .entry))) level (now (scratch .entry)) (now (scratch .exit)) r ⌝ }
 {
-    let count = scratch::row_start(rows);
+    let count = scratch::pair_cells(rows);
     lower(scratch, count, level);
     settle(mask, rows, events, cells, marks, scratch, level);
     some(scratch, count, level)
@@ -215,7 +247,7 @@ fn begin(mask: u32, rows: u16, events: u16, cells: &[u16], marks: &[u8], scratch
     requires { ⌜ Given (eventsBy mask events) (machineBy rows events (now cells) (now marks)) (now scratch) ⌝ }
     ensures { λ r. ⌜ Settled (eventsBy mask events) (machineBy rows events (now (cells .entry)) (now (marks .entry))) 0 (now (scratch .entry)) (now (scratch .exit)) ⌝ }
 {
-    scratch::clear(scratch, 0, scratch::row_start(rows));
+    scratch::clear(scratch, 0, scratch::pair_cells(rows));
     settle(mask, rows, events, cells, marks, scratch, 0);
 }
 

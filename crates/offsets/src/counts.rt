@@ -4,6 +4,7 @@ ghost use Prim.Native.Nat.{_+_, _*_, _≤_, _<_};
 ghost use lib.ListN.{length, getD};
 ghost use Rattle.tables.specs.Lengths.{oneLess};
 ghost use Rattle.tables.specs.Lists.{tabulate, over};
+ghost use Rattle.row_starts.specs.RowStarts.{rowStarts};
 ghost use Rattle.scratch.specs.Scratch.{lenCell};
 ghost use Rattle.lengths.specs.Lengths.{lenOf};
 ghost use Rattle.levels.specs.Levels.{till};
@@ -29,11 +30,12 @@ fn ahead(scratch: &[u16], rows: u16, q: u16, p: u16) -> bool
 }
 
 // The lesser of a distance and that of rows q and p, if p comes before q.
-fn nearer(scratch: &[u16], rows: u16, q: u16, p: u16, least: u16) -> u16
+fn nearer(starts: &[u32], scratch: &[u16], rows: u16, q: u16, p: u16, least: u16) -> u16
+    requires { ⌜ now starts ≡ rowStarts ⌝ }
     ensures { λ r. ⌜ r ≡ nearerOf rows (now (scratch .entry)) q p least ⌝ }
 {
     if ahead(scratch, rows, q, p) {
-        let distance = scratch::pair(scratch, q, p);
+        let distance = scratch::pair(starts, scratch, q, p);
         if distance < least {
             return distance;
         }
@@ -45,10 +47,11 @@ fn nearer(scratch: &[u16], rows: u16, q: u16, p: u16, least: u16) -> u16
 fn apart(scratch: &[u16], rows: u16, q: u16) -> u16
     ensures { λ r. ⌜ r ≡ apartAt rows (now (scratch .entry)) q rows ⌝ }
 {
+    let starts = row_starts::table();
     let mut least = ENDLESS;
     let mut p = 0;
     while p < rows {
-        least = nearer(scratch, rows, q, p, least);
+        least = nearer(&starts, scratch, rows, q, p, least);
         p += 1;
     }
     least

@@ -10,27 +10,31 @@ use lib.ListN.{length, getD, set, replicate, length-replicate}
 use lib.Seq.{ext-getD}
 use Rattle.tables.specs.Lists.{over}
 use Rattle.tables.proofs.Over.{over-length, over-set, over-over, over-inside, over-behind}
-use Rattle.scratch.specs.Scratch.{triangle, pairAt, needed, scratchCells, cleared}
+use Rattle.scratch.specs.Scratch.{triangle, pairFrom, pairAt, needed, scratchCells, cleared}
 use Rattle.scratch.proofs.Triangle.{needed-value}
 
+-- ---- two rows, each row's first cell being `from` of it
+module _ (from : ℕ → ℕ) (s : List ℕ) (q p : ℕ) where
+  pub from-greater : p < q → pairFrom from s q p ≡ getD s (from q + p) 0
+  unfolding pairFrom
+  from-greater h = rw (lt-ltb p q h)
+
+  pub from-less : q < p → pairFrom from s q p ≡ getD s (from p + q) 0
+  unfolding pairFrom
+  from-less h = rw (le-ltb p q (le-of-lt h), lt-ltb q p h)
+
+  pub from-same : q ≡ p → pairFrom from s q p ≡ 0
+  unfolding pairFrom
+  from-same e = rw (le-ltb p q (omega arith), le-ltb q p (omega arith))
+
 pub pair-greater : (s : List ℕ) (q p : ℕ) → p < q → pairAt s q p ≡ getD s (triangle q + p) 0
-unfolding pairAt
-pair-greater s q p h = rw (lt-ltb p q h)
+pair-greater = from-greater triangle
 
 pub pair-less : (s : List ℕ) (q p : ℕ) → q < p → pairAt s q p ≡ getD s (triangle p + q) 0
-unfolding pairAt
-pair-less s q p h = rw (le-ltb p q (le-of-lt h), lt-ltb q p h)
+pair-less = from-less triangle
 
 pub pair-same : (s : List ℕ) (q p : ℕ) → q ≡ p → pairAt s q p ≡ 0
-unfolding pairAt
-pair-same s q p e = rw (le-ltb p q (omega arith), le-ltb q p (omega arith))
-
--- The same at the place that the code has computed.
-pub greater : (s : List ℕ) {q p t x : ℕ} → p < q → t ≡ triangle q → x ≡ p → getD s (t + x) 0 ≡ pairAt s q p
-greater s {q} {p} {t} {x} h e f = rw (e, f) (sym (pair-greater s q p h))
-
-pub less : (s : List ℕ) {q p t x : ℕ} → q < p → t ≡ triangle p → x ≡ q → getD s (t + x) 0 ≡ pairAt s q p
-less s {q} {p} {t} {x} h e f = rw (e, f) (sym (pair-less s q p h))
+pair-same = from-same triangle
 
 -- ---- clearing
 pub clear-short : (s : List ℕ) (from to : ℕ) → length s < to → cleared s from to ≡ s

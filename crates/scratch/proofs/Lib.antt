@@ -1,5 +1,6 @@
 pub mod Triangle
 pub mod Cells
+pub mod RowStarts
 pub mod Pairs
 pub mod Works
 pub mod Soundness

@@ -1,10 +1,11 @@
 -- The triangle of pairs: where its rows begin, and that no two pairs share a cell.
 use Prim.Native.Nat.{ℕ, zero, suc, _+_, _-_, _*_, _/_, _≤_, _<_}
-use mathlib.Core.Path.{_≡_, refl, ap}
+use mathlib.Core.Path.{_≡_, refl, ap, _∙_}
 use mathlib.Core.Logic.{_⊎_, inl, inr, ⊎-elim}
 use native.Mathlib.Nat.{mul-suc, suc-mul, mul-le-mul, eq-or-lt-of-le, le-of-eq}
 use native.Mathlib.Decide.{decLt}
 use native.Mathlib.Omega.{arith}
+use Rattle.row_starts.proofs.Rule.{start-next}
 use Rattle.scratch.specs.Scratch.{triangle, needed, scratchCells}
 
 -- Cases on two numbers.
@@ -29,10 +30,9 @@ triangle-value i = omega (arith, triangle-square i)
 
 -- As document 01 says it.
 pub triangle-product : (i : ℕ) → i * (i - 1) / 2 ≡ triangle i
-triangle-product zero = omega (arith, triangle-square 0)
-triangle-product (suc i) =
-    let e : suc i - 1 ≡ i = omega arith in
-    rw e (let f : suc i * suc i ≡ suc i * i + suc i = mul-suc (suc i) i in omega (arith, f, triangle-square (suc i)))
+unfolding triangle
+triangle-product zero = refl
+triangle-product (suc i) = start-next i ∙ ap (λ (t : ℕ). t + i) (triangle-product i)
 
 pub needed-value : (n : ℕ) → scratchCells n ≡ needed n
 needed-value n = ap (λ (t : ℕ). t + 4 * n) (triangle-product n)

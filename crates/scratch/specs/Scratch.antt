@@ -16,9 +16,16 @@ unfoldable pub triangle : ℕ → ℕ
 triangle zero = 0
 triangle (suc i) = triangle i + i
 
--- The cell of two rows; 0 where they are one.
-unfoldable pub pairAt : List ℕ → ℕ → ℕ → ℕ
-pairAt s q p = cond (ltb p q) (getD s (triangle q + p) 0) (cond (ltb q p) (getD s (triangle p + q) 0) 0)
+-- The same from a table of row starts; of a row that the table does not have, as in the triangle.
+unfoldable pub startIn : List ℕ → ℕ → ℕ
+startIn starts i = cond (ltb i (length starts)) (getD starts i 0) (triangle i)
+
+-- The cell of two rows, each row's first cell being `from` of it; 0 where they are one.
+unfoldable pub pairFrom : (ℕ → ℕ) → List ℕ → ℕ → ℕ → ℕ
+pairFrom from s q p = cond (ltb p q) (getD s (from q + p) 0) (cond (ltb q p) (getD s (from p + q) 0) 0)
+
+abbrev pub pairAt : List ℕ → ℕ → ℕ → ℕ
+pairAt = pairFrom triangle
 
 -- The triangle of n rows with f of each row and each lower one.
 unfoldable pub pairs : (ℕ → ℕ → ℕ) → ℕ → List ℕ

@@ -3,49 +3,60 @@ ghost use mathlib.Core.Path.{_≡_};
 ghost use Prim.Native.Nat.{_+_, _*_};
 ghost use lib.ListN.{length, getD, set};
 ghost use Rattle.rules.specs.Rules.{tableOf};
-ghost use Rattle.scratch.specs.Scratch.{triangle, pairAt, leadsAt, queueAt, foldsAt, numbersAt, needed as cellsNeeded, weightBy, cleared, workable as isWorkable};
+ghost use Rattle.scratch.specs.Scratch.{triangle, startIn, pairFrom, leadsAt, queueAt, foldsAt, numbersAt, needed as cellsNeeded, weightBy, cleared, workable as isWorkable};
 
-// The first cell of a row in the triangle of pairs.
-pub fn row_start(row: u16) -> usize
-    ensures { λ r. ⌜ r ≡ triangle row ⌝ }
+// How many cells the pairs of so many rows take; behind them stand the leads.
+pub fn pair_cells(rows: u16) -> usize
+    ensures { λ r. ⌜ r ≡ triangle rows ⌝ }
+{
+    let n = rules::wide(rows);
+    (n * n - n) / 2
+}
+
+// The first cell of a row in the triangle of pairs, from a table of row starts. The table has every row that a winch can have; for any other number the rule of the stored one is computed.
+pub fn row_start(starts: &[u32], row: u16) -> usize
+    ensures { λ r. ⌜ r ≡ startIn (now (starts .entry)) row ⌝ }
 {
     let i = rules::wide(row);
-    (i * i - i) / 2
+    if i < starts.len() {
+        return starts[i] as usize;
+    }
+    pair_cells(row)
 }
 
 // Where the leads stand, one for each row.
 pub fn leads_at(rows: u16) -> usize
     ensures { λ r. ⌜ r ≡ leadsAt rows ⌝ }
 {
-    row_start(rows)
+    pair_cells(rows)
 }
 
 // Where rows stand in line: in order of depth, then kept, then in order of their new numbers.
 pub fn queue_at(rows: u16) -> usize
     ensures { λ r. ⌜ r ≡ queueAt rows ⌝ }
 {
-    row_start(rows) + rules::wide(rows)
+    pair_cells(rows) + rules::wide(rows)
 }
 
 // Where the rows stand into which each row folds.
 pub fn folds_at(rows: u16) -> usize
     ensures { λ r. ⌜ r ≡ foldsAt rows ⌝ }
 {
-    row_start(rows) + 2 * rules::wide(rows)
+    pair_cells(rows) + 2 * rules::wide(rows)
 }
 
 // Where the new numbers of those stand.
 pub fn numbers_at(rows: u16) -> usize
     ensures { λ r. ⌜ r ≡ numbersAt rows ⌝ }
 {
-    row_start(rows) + 3 * rules::wide(rows)
+    pair_cells(rows) + 3 * rules::wide(rows)
 }
 
 // How many cells all of it takes.
 pub fn needed(rows: u16) -> usize
     ensures { λ r. ⌜ r ≡ cellsNeeded rows ⌝ }
 {
-    row_start(rows) + 4 * rules::wide(rows)
+    pair_cells(rows) + 4 * rules::wide(rows)
 }
 
 // A cell; 0 beyond the last.
@@ -67,15 +78,15 @@ pub fn put(cells: &mut [u16], at: usize, x: u16)
     }
 }
 
-// The cell of two rows; 0 where they are one.
-pub fn pair(scratch: &[u16], q: u16, p: u16) -> u16
-    ensures { λ r. ⌜ r ≡ pairAt (now (scratch .entry)) q p ⌝ }
+// The cell of two rows, one lookup and one sum from a table of row starts; 0 where they are one.
+pub fn pair(starts: &[u32], scratch: &[u16], q: u16, p: u16) -> u16
+    ensures { λ r. ⌜ r ≡ pairFrom (startIn (now (starts .entry))) (now (scratch .entry)) q p ⌝ }
 {
     if p < q {
-        return cell(scratch, row_start(q) + rules::wide(p));
+        return cell(scratch, row_start(starts, q) + rules::wide(p));
     }
     if q < p {
-        return cell(scratch, row_start(p) + rules::wide(q));
+        return cell(scratch, row_start(starts, p) + rules::wide(q));
     }
     0
 }

@@ -1,9 +1,12 @@
+use Rattle.scratch.proofs.RowStarts.{pair-right}
 use borrow.Author.Needs.{needs}
 use Rattle.distances.proofs.event_fits.Statement.{statement}
 use Rattle.distances.proofs.event_fits.Tie as tie
 
 returns : tie.Need-returns
-returns c = cc
+returns c =
+    let own = pair-right _ (c .before .before .before .before .before .before .before .before .args .scratch .now) (c .before .before .before .before .target .result) (c .before .before .before .target2 .result) (c .before .before .before .before .before .before .before .before .pre) in
+    cc own
 
 pub event-fits-spec : {M : Type 1} → statement M
 event-fits-spec =

@@ -15,11 +15,11 @@ use Rattle.distances.proofs.pair_fits.Statement.{statement}
 use Rattle.distances.proofs.pair_fits.Tie as tie
 
 abbrev Inv-loop : tie.InvT-loop
-Inv-loop mask rows events cells marks scratch level q p event₀ event =
+Inv-loop mask rows events cells marks starts scratch level q p event₀ event =
     (event ≤ events) × (level ≡ 0 → markOf marks q ≡ markOf marks p) × ((a : ℕ) → a < event → pairAt scratch (getD cells (q * events + a) 0) (getD cells (p * events + a) 0) ≤ level - weightBy mask a)
 
 abbrev μ-loop : tie.MeasureT-loop
-μ-loop mask rows events cells marks scratch level q p event₀ event = events - event
+μ-loop mask rows events cells marks starts scratch level q p event₀ event = events - event
 
 -- the mark of a row, read at its number
 seen : (l : List ℕ) {i q a : ℕ} → i ≡ q → a ≡ markOf l i → a ≡ markOf l q
@@ -27,13 +27,13 @@ seen l e f = f ∙ ap (markOf l) e
 
 returns : tie.Need-returns Inv-loop μ-loop
 returns c =
-    let m = c .before .before .before .before .before .before .before .before .before .args .marks .now in
+    let m = c .before .before .before .before .before .before .before .before .before .before .args .marks .now in
     record { holds = λ e. absurd (false≢true e); fails = λ e f. c .if2 .taken (seen m (c .before .before .before .before .wide .ensures) (c .before .before .before .mark .ensures) ∙ f .marks (c .before .before .before .before .before .if1 .taken) ∙ sym (seen m (c .before .before .wide2 .ensures) (c .before .mark2 .ensures))) }
 
 loop-holds : tie.Need-loop-holds Inv-loop μ-loop
 loop-holds c = (
   omega arith,
-  λ z. ⊎-elim (λ w. sym (seen (c .before .before .before .before .args .marks .now) (w .1 .ensures) (w .2 .ensures)) ∙ w .5 .left ∙ seen (c .before .before .before .before .args .marks .now) (w .3 .ensures) (w .4 .ensures)) (λ w. absurd (w .left z)) (c .if1 .came),
+  λ z. ⊎-elim (λ w. sym (seen (c .before .before .before .before .before .args .marks .now) (w .1 .ensures) (w .2 .ensures)) ∙ w .5 .left ∙ seen (c .before .before .before .before .before .args .marks .now) (w .3 .ensures) (w .4 .ensures)) (λ w. absurd (w .left z)) (c .if1 .came),
   λ a h. absurd (omega arith),
 )
 

@@ -8,20 +8,23 @@ use Rattle.offsets.proofs.counts.apart.Statement.{statement}
 use Rattle.offsets.proofs.counts.apart.Tie as tie
 
 abbrev Inv-loop : tie.InvT-loop
-Inv-loop scratch rows q least₀ p₀ least p = (p ≤ rows) × (least ≡ apartAt rows scratch q p)
+Inv-loop scratch rows q starts least₀ p₀ least p = (p ≤ rows) × (least ≡ apartAt rows scratch q p)
 
 abbrev μ-loop : tie.MeasureT-loop
-μ-loop scratch rows q least₀ p₀ least p = rows - p
+μ-loop scratch rows q starts least₀ p₀ least p = rows - p
 
 loop-holds : tie.Need-loop-holds Inv-loop μ-loop
-loop-holds c = let a = c .before .args in (omega arith, apart-none (a .rows) (a .scratch .now) (a .q))
+loop-holds c = let a = c .before .before .args in (omega arith, apart-none (a .rows) (a .scratch .now) (a .q))
+
+nearer-requires : tie.Need-nearer-requires Inv-loop μ-loop
+nearer-requires c κs = c .before .before .before .table .ensures
 
 loop-again : tie.Need-loop-again Inv-loop μ-loop
-loop-again c = let a = c .before .before .before .before .args in let l = c .before .before .loop in (omega arith, apart-next (a .rows) (a .scratch .now) (a .q) (l .p) (l .inv .1) (c .nearer .ensures))
+loop-again c = let a = c .before .before .before .before .before .before .args in let l = c .before .before .before .loop in (omega arith, apart-next (a .rows) (a .scratch .now) (a .q) (l .p) (l .inv .1) (c .nearer .ensures))
 
 returns : tie.Need-returns Inv-loop μ-loop
 returns c =
-    let a = c .before .before .before .args in
+    let a = c .before .before .before .before .args in
     let l = c .before .loop in
     let all : l .p ≡ a .rows = omega (arith, l .inv .0, c .loop-test .left) in
     l .inv .1 ∙ ap (apartAt (a .rows) (a .scratch .now) (a .q)) all
@@ -32,8 +35,10 @@ apart-spec =
     (tie.spec
     Inv-loop
     μ-loop
-    loop-holds
     (λ c κs. search needs)
+    loop-holds
+    (λ c. search needs)
+    nearer-requires
     (λ c. omega arith)
     (λ c. omega arith)
     loop-again
