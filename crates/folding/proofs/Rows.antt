@@ -3,13 +3,13 @@ use mathlib.Core.Path.{_≡_, refl, sym, ap, _∙_, subst}
 use mathlib.Core.Bool.{Bool, true, false, cond}
 use mathlib.Core.List.{List, [], _∷_, _++_, append-nil}
 use mathlib.Core.Logic.{inl, inr}
-use Prim.Native.Nat.{ℕ, zero, suc, _+_, _≤_, _<_}
+use Prim.Native.Nat.{ℕ, suc, _+_, _≤_, _<_}
 use native.Mathlib.Omega.{arith}
 use lib.ListN.{length, getD, length-append, List·getD-eq-default}
 use Rattle.automata.proofs.Tests.{clash, not-true}
 use Rattle.automata.proofs.Lists.{Mem}
 use Rattle.tables.specs.Lists.{filter, some, first, position, sift}
-use Rattle.tables.proofs.Lists.{at-mem, mem-cases, some-has, has-some, position-in, position-passes}
+use Rattle.tables.proofs.Lists.{read-same, at-mem, mem-cases, some-has, has-some, position-in, position-passes}
 use Rattle.folding.specs.Found.{added}
 
 -- ---- those that pass a test
@@ -87,11 +87,6 @@ module _ (f g : ℕ → Bool) where
       pick false false e ih = ih
 
 -- ---- the first that passes a test
-any-default : (l : List ℕ) (i d e : ℕ) → i < length l → getD l i d ≡ getD l i e
-any-default [] i d e h = absurd (omega arith)
-any-default (x ∷ l) zero d e h = refl
-any-default (x ∷ l) (suc i) d e h = any-default l i d e (omega arith)
-
 module _ (f : ℕ → Bool) where
   first-at : (d : ℕ) (l : List ℕ) → first f d l ≡ getD l (position f l) d
   unfolding first position
@@ -104,7 +99,7 @@ module _ (f : ℕ → Bool) where
       pick false ih = ih
 
   pub first-found : (d : ℕ) (l : List ℕ) → position f l < length l → first f d l ≡ getD l (position f l) 0
-  first-found d l h = first-at d l ∙ any-default l (position f l) d 0 h
+  first-found d l h = first-at d l ∙ read-same l (position f l) d 0 h
 
   pub first-none : (d : ℕ) (l : List ℕ) → length l ≤ position f l → first f d l ≡ d
   first-none d l h = first-at d l ∙ List·getD-eq-default l d h

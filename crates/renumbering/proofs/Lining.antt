@@ -12,19 +12,13 @@ use Rattle.automata.proofs.Lists.{Mem}
 use Rattle.tables.specs.Lists.{tabulate, sift, over}
 use Rattle.tables.specs.Table.{Table, Valid, machine, eventsOf, unit, targetOf}
 use Rattle.tables.specs.Reduction.{met, numbering}
-use Rattle.tables.proofs.Lists.{read-below, mem-tabulate, tabulate-mem, tabulate-length, tabulate-same}
+use Rattle.tables.proofs.Lists.{read-same, read-below, mem-tabulate, tabulate-mem, tabulate-length, tabulate-same}
 use Rattle.tables.proofs.Numbering.{numbering-starts, met-stops}
 use Rattle.tables.proofs.Over.{over-set, over-length, over-part, over-inside, over-behind, over-again}
 use Rattle.scratch.specs.Scratch.{needed, queueAt, foldsAt, foldIn, queued}
 use Rattle.renumbering.specs.Renumber.{line}
 use Rattle.renumbering.specs.Line.{Line, next}
 use Rattle.renumbering.proofs.Lines.{sift-length, line-more, line-fits}
-
--- A member read with one default or another.
-read-same : (l : List ℕ) (i d e : ℕ) → i < length l → getD l i d ≡ getD l i e
-read-same [] i d e h = absurd (omega arith)
-read-same (x ∷ l) zero d e h = refl
-read-same (x ∷ l) (suc i) d e h = read-same l i d e (omega arith)
 
 -- Every cell of a valid table is a row, and so is what is read beyond them.
 pub cells-rows : (T : Table) → Valid T → (i : ℕ) → getD (T .cells) i 0 < T .rows

@@ -4,8 +4,8 @@ use mathlib.Core.Path.{_≡_, sym, ap, subst, _∙_}
 use mathlib.Core.Logic.{⊎-elim}
 use mathlib.Core.List.{List}
 use native.Mathlib.Omega.{arith}
-use borrow.Author.Tests.{lt-ltb, le-ltb}
-use lib.ListN.{length, getD}
+use lib.ListN.{length, getD, List·getD-eq-default}
+use Rattle.tables.proofs.Lists.{read-same}
 use Rattle.row_starts.specs.RowStarts.{rowStarts}
 use Rattle.row_starts.proofs.Rule.{entries, entry}
 use Rattle.scratch.specs.Scratch.{triangle, startIn, pairFrom, pairAt}
@@ -14,11 +14,11 @@ use Rattle.scratch.proofs.Triangle.{lt-or-ge, triangle-product, triangl
 
 pub start-stored : (starts : List ℕ) (i : ℕ) → i < length starts → startIn starts i ≡ getD starts i 0
 unfolding startIn
-start-stored starts i h = rw (lt-ltb i (length starts) h)
+start-stored starts i h = read-same starts i (triangle i) 0 h
 
 pub start-beyond : (starts : List ℕ) (i : ℕ) → length starts ≤ i → startIn starts i ≡ triangle i
 unfolding startIn
-start-beyond starts i h = rw (le-ltb i (length starts) h)
+start-beyond starts i h = List·getD-eq-default starts (triangle i) h
 
 -- Entries of 32 bits are starts of 32 bits.
 pub start-bound : (starts : List ℕ) → ((i : ℕ) → getD starts i 0 < 4294967296) → (i : ℕ) → i ≤ 65535 → startIn starts i < 4294967296
@@ -41,10 +41,11 @@ start-right starts e i =
     (λ h. start-beyond starts i h)
     (lt-or-ge i (length starts))
 
--- and two rows have the cell that they have there.
-pub pair-right : (starts s : List ℕ) (q p : ℕ) → starts ≡ rowStarts → pairFrom (startIn starts) s q p ≡ pairAt s q p
-pair-right starts s q p e =
-    ⊎-elim
+-- and what is read by it of two rows is read from their own cell.
+pub pair-right : (starts s : List ℕ) (q p : ℕ) {x : ℕ} → starts ≡ rowStarts → x ≡ pairFrom (startIn starts) s q p → x ≡ pairAt s q p
+pair-right starts s q p e known =
+    known
+    ∙ ⊎-elim
     (λ l. from-greater (startIn starts) s q p l ∙ ap (λ (t : ℕ). getD s (t + p) 0) (start-right starts e q) ∙ sym (pair-greater s q p l))
     (λ g.
     ⊎-elim

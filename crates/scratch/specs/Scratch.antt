@@ -18,12 +18,13 @@ triangle (suc i) = triangle i + i
 
 -- The same from a table of row starts; of a row that the table does not have, as in the triangle.
 unfoldable pub startIn : List ℕ → ℕ → ℕ
-startIn starts i = cond (ltb i (length starts)) (getD starts i 0) (triangle i)
+startIn starts i = getD starts i (triangle i)
 
 -- The cell of two rows, each row's first cell being `from` of it; 0 where they are one.
 unfoldable pub pairFrom : (ℕ → ℕ) → List ℕ → ℕ → ℕ → ℕ
 pairFrom from s q p = cond (ltb p q) (getD s (from q + p) 0) (cond (ltb q p) (getD s (from p + q) 0) 0)
 
+-- The same in the triangle.
 abbrev pub pairAt : List ℕ → ℕ → ℕ → ℕ
 pairAt = pairFrom triangle
 

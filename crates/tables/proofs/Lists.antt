@@ -50,6 +50,12 @@ unfolding tabulate
 tabulate-same zero f g h = refl
 tabulate-same (suc n) f g h = rw (h 0 (omega arith), tabulate-same n (λ i. f (suc i)) (λ i. g (suc i)) (λ i l. h (suc i) (omega arith)))
 
+-- A member read with one default or another.
+pub read-same : (l : List ℕ) (i d e : ℕ) → i < length l → getD l i d ≡ getD l i e
+read-same [] i d e h = absurd (omega arith)
+read-same (x ∷ l) zero d e h = refl
+read-same (x ∷ l) (suc i) d e h = read-same l i d e (omega arith)
+
 -- ---- membership
 
 pub mem-left : (l m : List ℕ) (x : ℕ) → Mem x l → Mem x (l ++ m)

@@ -4,9 +4,7 @@ use Rattle.distances.proofs.event_fits.Statement.{statement}
 use Rattle.distances.proofs.event_fits.Tie as tie
 
 returns : tie.Need-returns
-returns c =
-    let own = pair-right _ (c .before .before .before .before .before .before .before .before .args .scratch .now) (c .before .before .before .before .target .result) (c .before .before .before .target2 .result) (c .before .before .before .before .before .before .before .before .pre) in
-    cc own
+returns c = cc (pair-right _ _ _ _ (c .before .before .before .before .before .before .before .before .pre) (c .before .before .pair .ensures))
 
 pub event-fits-spec : {M : Type 1} → statement M
 event-fits-spec =

@@ -1,4 +1,3 @@
-use mathlib.Core.Path.{_∙_}
 use Rattle.scratch.proofs.RowStarts.{pair-right}
 use Rattle.offsets.proofs.Rows.{nearer-not, nearer-less, nearer-more}
 use borrow.Author.Needs.{needs}
@@ -6,16 +5,10 @@ use Rattle.offsets.proofs.counts.nearer.Statement.{statement}
 use Rattle.offsets.proofs.counts.nearer.Tie as tie
 
 returns : tie.Need-returns
-returns c =
-    let a = c .before .before .before .before .before .before .args in
-    let distance = c .before .pair .ensures ∙ pair-right _ (a .scratch .now) (a .q) (a .p) (c .before .before .before .before .before .before .pre) in
-    nearer-less (a .rows) (a .scratch .now) (a .q) (a .p) (c .before .before .before .ahead .ensures) (a .least) (c .before .before .if1 .taken) distance (c .if2 .taken)
+returns c = let a = c .before .before .before .before .before .before .args in nearer-less (a .rows) (a .scratch .now) (a .q) (a .p) (c .before .before .before .ahead .ensures) (a .least) (c .before .before .if1 .taken) (pair-right _ _ _ _ (c .before .before .before .before .before .before .pre) (c .before .pair .ensures)) (c .if2 .taken)
 
 returns-2 : tie.Need-returns-2
-returns-2 c =
-    let a = c .before .before .before .before .before .before .args in
-    let distance = c .before .pair .ensures ∙ pair-right _ (a .scratch .now) (a .q) (a .p) (c .before .before .before .before .before .before .pre) in
-    nearer-more (a .rows) (a .scratch .now) (a .q) (a .p) (c .before .before .before .ahead .ensures) (a .least) (c .before .before .if1 .taken) distance (c .if2 .left)
+returns-2 c = let a = c .before .before .before .before .before .before .args in nearer-more (a .rows) (a .scratch .now) (a .q) (a .p) (c .before .before .before .ahead .ensures) (a .least) (c .before .before .if1 .taken) (pair-right _ _ _ _ (c .before .before .before .before .before .before .pre) (c .before .pair .ensures)) (c .if2 .left)
 
 returns-3 : tie.Need-returns-3
 returns-3 c = let a = c .before .before .before .before .args in nearer-not (a .rows) (a .scratch .now) (a .q) (a .p) (c .before .ahead .ensures) (a .least) (c .if1 .left)
