@@ -29,7 +29,7 @@ abbrev pub Run : Events → List ℕ → Type 0
 Run E [] = Unit {0}
 Run E (a ∷ w) = (a < E .count) × Run E w
 
--- The length of a run as document 01 counts it: every event adds its weight.
+-- The length of a run: every event adds its weight. It is 1 for an event that counts, 0 for an idle one.
 abbrev pub size : Events → List ℕ → ℕ
 size E [] = 0
 size E (a ∷ w) = E .weight a + size E w

@@ -9,12 +9,12 @@ use Rattle.automata.specs.Runs.{Events, Machine, Sound, Light, Run, size, after
 use Rattle.automata.proofs.Tests.{either}
 use Rattle.automata.proofs.Runs.{Reach, less}
 use Rattle.tables.specs.Lengths.{lead, reached, depth}
-use Rattle.tables.specs.Table.{Table, machine, eventsOf, targetOf}
+use Rattle.tables.specs.Table.{Table, machine, eventsOf, targetOf, weightBy}
 use Rattle.tables.proofs.Lengths.{Below, reached-is, reached-found, depth-is, depth-one, depth-below, lead-unreached, lead-reached, lead-endless}
-use Rattle.scratch.specs.Scratch.{lenCell, weightBy, leadAt}
+use Rattle.scratch.specs.Scratch.{lenCell, leadAt}
 use Rattle.depths.specs.Steps.{Known, QuietRows}
 use Rattle.depths.proofs.Moves.{further-least}
-use Rattle.scratch.proofs.Weights.{mask-light}
+use Rattle.tables.proofs.Counted.{mask-light}
 
 module _ (mask : ℕ) (T : Table) (s : List ℕ) (fit : T .rows ≤ 1024) (v : Sound (eventsOf (weightBy mask) T) (machine T))
     (k : Known (eventsOf (weightBy mask) T) (machine T) s) (quiet : QuietRows mask T s) where

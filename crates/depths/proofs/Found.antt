@@ -13,10 +13,10 @@ use Rattle.automata.specs.Runs.{Sound}
 use Rattle.automata.proofs.Runs.{Reach, stay, less}
 use Rattle.tables.specs.Lists.{over}
 use Rattle.tables.specs.Lengths.{lead}
-use Rattle.tables.specs.Table.{Table, machine, eventsOf}
+use Rattle.tables.specs.Table.{Table, machine, eventsOf, weightBy}
 use Rattle.tables.proofs.Over.{over-length, over-before, over-inside, over-behind, over-tabulate}
 use Rattle.tables.proofs.Reduced.{sound-of}
-use Rattle.scratch.specs.Scratch.{leadsAt, lenCell, weightBy, cleared, workable, leadAt}
+use Rattle.scratch.specs.Scratch.{leadsAt, lenCell, cleared, workable, leadAt}
 use Rattle.scratch.proofs.Works.{workable-valid}
 use Rattle.depths.specs.Depths.{leadCells}
 use Rattle.depths.specs.Steps.{Workspace, Known, Grown, QuietRows}

@@ -12,9 +12,9 @@ use lib.ListN.{length, getD, set, length-set}
 use lib.Seq.{getD-set-same, getD-set-other}
 use Rattle.automata.specs.Runs.{Events, Machine}
 use Rattle.automata.proofs.Runs.{Reach, event, _then_, less}
-use Rattle.tables.specs.Table.{Table, machine, eventsOf, targetOf}
+use Rattle.tables.specs.Table.{Table, machine, eventsOf, targetOf, weightBy}
 use Rattle.rules.specs.Rules.{tableOf}
-use Rattle.scratch.specs.Scratch.{leadsAt, weightBy, leadAt}
+use Rattle.scratch.specs.Scratch.{leadsAt, leadAt}
 use Rattle.depths.specs.Steps.{further, Workspace, Known, Grown, below, Moved, Quiet, QuietRows, Stepped}
 
 further-cases : (n c w : ℕ) → ((n < c + w) × (further n c w ≡ 65535)) ⊎ ((c + w ≤ n) × (further n c w ≡ c + w))

@@ -10,10 +10,10 @@ use lib.ListN.{length, getD, take, drop}
 use Rattle.automata.proofs.Tests.{either}
 use Rattle.tables.specs.Lists.{over}
 use Rattle.tables.specs.Lengths.{lead}
-use Rattle.tables.specs.Table.{Table, machine, eventsOf}
+use Rattle.tables.specs.Table.{Table, machine, eventsOf, weightBy}
 use Rattle.tables.proofs.Lists.{tabulate-length, tabulate-at}
 use Rattle.tables.proofs.Over.{over-length, over-inside, take-before-over, drop-over}
-use Rattle.scratch.specs.Scratch.{triangle, leadsAt, lenCell, weightBy, workable}
+use Rattle.scratch.specs.Scratch.{triangle, leadsAt, lenCell, workable}
 use Rattle.scratch.proofs.Works.{workable-fine}
 use Rattle.depths.specs.Depths.{leadCells, plumbed}
 

@@ -5,8 +5,8 @@ use Prim.Native.Nat.{ℕ}
 use lib.ListN.{length}
 use Rattle.tables.specs.Lists.{tabulate, over}
 use Rattle.tables.specs.Lengths.{lead}
-use Rattle.tables.specs.Table.{Table, machine, eventsOf}
-use Rattle.scratch.specs.Scratch.{leadsAt, lenCell, weightBy, workable}
+use Rattle.tables.specs.Table.{Table, machine, eventsOf, weightBy}
+use Rattle.scratch.specs.Scratch.{leadsAt, lenCell, workable}
 
 -- The lead of each row, in cells: one more than its depth, 0 where it is unreached.
 unfoldable pub leadCells : (ℕ → ℕ) → Table → List ℕ

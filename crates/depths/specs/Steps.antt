@@ -9,9 +9,9 @@ use lib.ListN.{length, getD}
 use Rattle.automata.specs.Runs.{Events, Machine}
 use Rattle.automata.proofs.Runs.{Reach}
 use Rattle.tables.specs.Lists.{over}
-use Rattle.tables.specs.Table.{Table, machine, eventsOf, targetOf}
+use Rattle.tables.specs.Table.{Table, machine, eventsOf, targetOf, weightBy}
 use Rattle.rules.specs.Rules.{tableOf}
-use Rattle.scratch.specs.Scratch.{leadAt, leadsAt, weightBy}
+use Rattle.scratch.specs.Scratch.{leadAt, leadsAt}
 use Rattle.depths.specs.Depths.{leadCells}
 
 -- The lead of a row to which an event of weight w leads from a row of lead c. Above the number of rows it is endless.

@@ -42,7 +42,7 @@ fn relax(
         return false;
     }
     let at = lead_at(rows, scratch::target(cells, events, row, event));
-    let next = longer(rows, lead, scratch::weight(mask, event));
+    let next = longer(rows, lead, weights::weight(mask, event));
     if scratch::cell(scratch, at) < next {
         scratch::put(scratch, at, next);
         return true;

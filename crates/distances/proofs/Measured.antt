@@ -9,15 +9,15 @@ use borrow.Author.Tests.{not-true, not-false}
 use lib.ListN.{length, drop}
 use Rattle.automata.specs.Runs.{Sound}
 use Rattle.automata.proofs.Tests.{either}
-use Rattle.tables.specs.Table.{Table, machine, eventsOf}
+use Rattle.tables.specs.Table.{Table, machine, eventsOf, weightBy}
 use Rattle.tables.specs.Lists.{over}
 use Rattle.tables.specs.Lengths.{distance}
 use Rattle.rules.specs.Rules.{winch, tableOf}
 use Rattle.rules.proofs.Shape.{Shape}
-use Rattle.scratch.specs.Scratch.{triangle, pairAt, lenCell, weightBy, workable}
+use Rattle.scratch.specs.Scratch.{triangle, pairAt, lenCell, workable}
 use Rattle.scratch.proofs.Pairs.{pairs-same, pairs-at, over-pairs-length, over-pairs-drop}
 use Rattle.scratch.proofs.Works.{workable-fine}
-use Rattle.scratch.proofs.Weights.{mask-light}
+use Rattle.tables.proofs.Counted.{mask-light}
 use Rattle.scratch.proofs.Soundness.{workable-shape, workable-sound}
 use Rattle.distances.specs.Distances.{distanceCells, measured}
 use Rattle.distances.specs.Search.{eventsBy, machineBy, Given}

@@ -4,9 +4,9 @@ use mathlib.Core.List.{List}
 use Prim.Native.Nat.{ℕ}
 use lib.ListN.{length}
 use Rattle.tables.specs.Lists.{over}
-use Rattle.tables.specs.Table.{Table, machine, eventsOf}
+use Rattle.tables.specs.Table.{Table, machine, eventsOf, weightBy}
 use Rattle.tables.specs.Lengths.{distance}
-use Rattle.scratch.specs.Scratch.{pairs, lenCell, weightBy, workable}
+use Rattle.scratch.specs.Scratch.{pairs, lenCell, workable}
 
 -- The distance of each pair of rows, in cells.
 unfoldable pub distanceCells : (ℕ → ℕ) → Table → List ℕ

@@ -7,9 +7,9 @@ use Prim.Native.Nat.{ℕ, suc, _+_, _-_, _≤_, _<_}
 use lib.Dec.{eqb}
 use lib.ListN.{length, getD, drop}
 use Rattle.automata.specs.Runs.{Events, Machine, Sound, Near}
-use Rattle.tables.specs.Table.{machine}
+use Rattle.tables.specs.Table.{machine, weightBy}
 use Rattle.rules.specs.Rules.{tableOf}
-use Rattle.scratch.specs.Scratch.{triangle, pairAt, weightBy}
+use Rattle.scratch.specs.Scratch.{triangle, pairAt}
 
 -- The events and the machine that a search runs. It does not look at the start.
 abbrev pub eventsBy : ℕ → ℕ → Events

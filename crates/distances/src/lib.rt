@@ -7,7 +7,8 @@ ghost use lib.ListN.{length, getD};
 ghost use Rattle.tables.specs.Lists.{over};
 ghost use Rattle.rules.specs.Rules.{tableOf};
 ghost use Rattle.row_starts.specs.RowStarts.{rowStarts};
-ghost use Rattle.scratch.specs.Scratch.{pairAt, weightBy, workable};
+ghost use Rattle.tables.specs.Table.{weightBy};
+ghost use Rattle.scratch.specs.Scratch.{pairAt, workable};
 ghost use Rattle.distances.specs.Distances.{distanceCells, measured};
 ghost use Rattle.distances.specs.Search.{eventsBy, machineBy, Tested, Fits, Given, Begun, Visited, RowSwept, Swept, Settled, Ready, Risen, Lowered};
 
@@ -35,7 +36,7 @@ fn event_fits(
 {
     let i = scratch::target(cells, events, q, event);
     let j = scratch::target(cells, events, p, event);
-    scratch::pair(starts, scratch, i, j) <= less(level, scratch::weight(mask, event))
+    scratch::pair(starts, scratch, i, j) <= less(level, weights::weight(mask, event))
 }
 
 // Whether the level fits rows q and p.

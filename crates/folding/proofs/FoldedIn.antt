@@ -8,12 +8,12 @@ use borrow.Author.Tests.{not-true, not-false, le-ltb}
 use lib.ListN.{length, getD, replicate, length-replicate}
 use Rattle.automata.specs.Runs.{Events, Machine}
 use Rattle.tables.specs.Lists.{tabulate, over}
-use Rattle.tables.specs.Table.{Table, Offset, machine, eventsOf}
+use Rattle.tables.specs.Table.{Table, Offset, machine, eventsOf, weightBy}
 use Rattle.tables.specs.Lengths.{lead}
 use Rattle.tables.specs.Reduction.{order, kept, fold, similar}
 use Rattle.tables.proofs.Lists.{tabulate-length, tabulate-at}
 use Rattle.tables.proofs.Over.{over-length, over-inside, over-before, over-behind, over-again, over-swap}
-use Rattle.scratch.specs.Scratch.{leadsAt, queueAt, foldsAt, numbersAt, lenCell, weightBy, workable, cleared}
+use Rattle.scratch.specs.Scratch.{leadsAt, queueAt, foldsAt, numbersAt, lenCell, workable, cleared}
 use Rattle.scratch.proofs.Soundness.{workable-shape}
 use Rattle.lengths.specs.Lengths.{lengthsIn, Holds}
 use Rattle.lengths.proofs.Found.{lengths-size, lengths-not, lengths-beyond, lengths-hold}

@@ -3,8 +3,8 @@ use mathlib.Core.Bool.{Bool, false}
 use mathlib.Core.List.{List, [], _∷_, _++_}
 use Prim.Native.Nat.{ℕ, _+_, _*_, min}
 use lib.Dec.{eqb, leb}
-use Rattle.tables.specs.Table.{Table, Offset, offset, none, markOf, targetOf}
-use Rattle.rules.specs.Rules.{rule, judged, winch, rowRule, shapeChecks}
+use Rattle.tables.specs.Table.{Table, Offset, offset, none, markOf, targetOf, weightBy}
+use Rattle.rules.specs.Rules.{rule, judged, winch, rowRule, maskRule, shapeChecks}
 use Rattle.rules.specs.declared.Verdict.{Verdict}
 use Rattle.rules.specs.declared.Verdict.the-variants.{Fine, Refused}
 use Rattle.follower.specs.declared.Follower.{Follower}
@@ -22,41 +22,41 @@ begunBy (Refused number place) start = begin.Refused number place
 unfoldable pub begun : Table → Begun
 begun T = begunBy (judged (shapeChecks winch T)) (T .start)
 
--- What an event checks once the table's shape is right: 4 of the follower's row, 11, and 5 for the one cell it uses.
-abbrev pub cellChecks : Table → ℕ → ℕ → List Verdict
-cellChecks T row event =
-    rowRule (T .rows) row ∷ rule 11 (leb (T .events) event) 0 ∷ rule 5 (leb (T .rows) (targetOf T row event)) (row * T .events + event) ∷ []
+-- What an event checks once the table's shape is right: 4 of the follower's row, 16 of the mask of counted events, 11, and 5 for the one cell it uses.
+abbrev pub cellChecks : ℕ → Table → ℕ → ℕ → List Verdict
+cellChecks mask T row event =
+    rowRule (T .rows) row ∷ maskRule mask (T .events) ∷ rule 11 (leb (T .events) event) 0 ∷ rule 5 (leb (T .rows) (targetOf T row event)) (row * T .events + event) ∷ []
 
--- An event checks 1, 2, 3, 4 (of the start, then of the follower's row), 11, and 5.
-abbrev pub eventChecks : Table → ℕ → ℕ → List Verdict
-eventChecks T row event = shapeChecks winch T ++ cellChecks T row event
+-- An event checks 1, 2, 3, 4 (of the start, then of the follower's row), 16, 11, and 5.
+abbrev pub eventChecks : ℕ → Table → ℕ → ℕ → List Verdict
+eventChecks mask T row event = shapeChecks winch T ++ cellChecks mask T row event
 
 -- A refused event changes nothing.
 abbrev pub stays : ℕ → ℕ → ℕ → ℕ → Next
 stays row count number place = record { row = row; count = count; verdict = Refused number place }
 
--- The event moves the follower and adds one to its count, which stays at 65,535 once there.
-abbrev pub advancedBy : Verdict → Table → ℕ → ℕ → ℕ → Next
-advancedBy Fine T row count event = record { row = targetOf T row event; count = min 65535 (count + 1); verdict = Fine }
-advancedBy (Refused number place) T row count event = stays row count number place
+-- The event moves the follower and adds what it counts for to its count, which stays at 65,535 once there.
+abbrev pub advancedBy : Verdict → ℕ → Table → ℕ → ℕ → ℕ → Next
+advancedBy Fine mask T row count event = record { row = targetOf T row event; count = min 65535 (count + weightBy mask event); verdict = Fine }
+advancedBy (Refused number place) mask T row count event = stays row count number place
 
-unfoldable pub advanced : Table → ℕ → ℕ → ℕ → Next
-advanced T row count event = advancedBy (judged (eventChecks T row event)) T row count event
+unfoldable pub advanced : ℕ → Table → ℕ → ℕ → ℕ → Next
+advanced mask T row count event = advancedBy (judged (eventChecks mask T row event)) mask T row count event
 
 -- The follower that a step leaves.
 abbrev pub moved : Next → Follower
 moved n = record { row = n .row; count = n .count }
 
 -- Events are taken one after another, from a row and a count, up to the first that is refused.
-unfoldable pub followed : Table → ℕ → ℕ → List ℕ → Next
-followed T row count [] = record { row = row; count = count; verdict = Fine }
-followed T row count (event ∷ run) =
-    let n = advanced T row count event in
-    elim (n .verdict) [ Fine ↦ followed T (n .row) (n .count) run | Refused number place ↦ n ]
+unfoldable pub followed : ℕ → Table → ℕ → ℕ → List ℕ → Next
+followed mask T row count [] = record { row = row; count = count; verdict = Fine }
+followed mask T row count (event ∷ run) =
+    let n = advanced mask T row count event in
+    elim (n .verdict) [ Fine ↦ followed mask T (n .row) (n .count) run | Refused number place ↦ n ]
 
 -- A run, by a follower that begins at the start.
-abbrev pub follow : Table → List ℕ → Next
-follow T run = followed T (T .start) 0 run
+abbrev pub follow : ℕ → Table → List ℕ → Next
+follow mask T run = followed mask T (T .start) 0 run
 
 -- Settled: the count is at least the offset; with no offset, never.
 abbrev pub settled : Offset → ℕ → Bool

@@ -1,11 +1,11 @@
-// A follower of a table: it is changed by each event it takes, and answers its row's mark.
+// A follower of a table: it is changed by each event it takes, counts those that a mask says count, and answers its row's mark.
 ghost use mathlib.Core.Path.{_≡_};
-ghost use Prim.Native.Nat.{_+_, _*_, min};
+ghost use Prim.Native.Nat.{_+_, _*_, _≤_, min};
 ghost use lib.ListN.{length};
 ghost use Rattle.rules.specs.Rules.{winch, judged, shapeChecks, tableOf, offsetOf};
 ghost use Rattle.follower.specs.Follow.{begun, cellChecks, stays, advancedBy, advanced, moved, settled, shown};
 
-// Where a follower stands, and how many events it has taken.
+// Where a follower stands, and how many counted events it has taken.
 pub struct Follower {
     pub row: u16,
     pub count: u16,
@@ -50,20 +50,23 @@ pub fn begin(rows: usize, events: usize, start: usize, cells: &[u16], marks: &[u
     }
 }
 
-// The count after one event more: it stays at 65,535 once there.
-fn bump(count: u16) -> u16
-    ensures { λ r. ⌜ r ≡ min 65535 (count + 1) ⌝ }
+// The count after an event of this weight: it stays at 65,535 once there.
+fn bump(count: u16, weight: u16) -> u16
+    ensures { λ r. ⌜ r ≡ min 65535 (count + weight) ⌝ }
 {
-    if count < 65535 { count + 1 } else { count }
+    if 65535 - count < weight {
+        return 65535;
+    }
+    count + weight
 }
 
-// The follower after an event that leads to `target`.
-fn taken(f: Follower, target: u16) -> Follower
-    ensures { λ r. ⌜ (r .row ≡ target) × (r .count ≡ min 65535 (f .count + 1)) ⌝ }
+// The follower after an event of this weight that leads to `target`.
+fn taken(f: Follower, weight: u16, target: u16) -> Follower
+    ensures { λ r. ⌜ (r .row ≡ target) × (r .count ≡ min 65535 (f .count + weight)) ⌝ }
 {
     Follower {
         row: target,
-        count: bump(f.count),
+        count: bump(f.count, weight),
     }
 }
 
@@ -78,8 +81,9 @@ fn refused(row: u16, count: u16, number: usize, place: usize) -> Next
     }
 }
 
-// One event on a table whose counts and lengths are right: rules 4, 11 and 5.
+// One event on a table whose counts and lengths are right: rules 4, 16, 11 and 5.
 fn advance_within(
+    mask: u32,
     rows: usize,
     events: usize,
     start: usize,
@@ -89,13 +93,16 @@ fn advance_within(
     count: u16,
     event: usize,
 ) -> Next
-    requires { ⌜ length (now cells) ≡ rows * events ⌝ }
+    requires { ⌜ (events ≤ 32) × (length (now cells) ≡ rows * events) ⌝ }
     ensures { λ r. ⌜ (let T = tableOf rows events start (now (cells .entry)) (now (marks .entry)) in
-        r ≡ advancedBy (judged (cellChecks T row event)) T row count event) ⌝ }
+        r ≡ advancedBy (judged (cellChecks mask T row event)) mask T row count event) ⌝ }
 {
     let at = row as usize;
     if rows <= at {
         return refused(row, count, 4, 0);
+    }
+    if weights::spare_bit(mask, events) {
+        return refused(row, count, 16, 0);
     }
     if events <= event {
         return refused(row, count, 11, 0);
@@ -105,7 +112,8 @@ fn advance_within(
     if rows <= target as usize {
         return refused(row, count, 5, place);
     }
-    let to = taken(Follower { row, count }, target);
+    let weight = weights::weight(mask, event as u16);
+    let to = taken(Follower { row, count }, weight, target);
     Next {
         row: to.row,
         count: to.count,
@@ -113,8 +121,9 @@ fn advance_within(
     }
 }
 
-// What one event makes of the two numbers of a follower.
+// What one event makes of the two numbers of a follower; the mask says which events count.
 pub fn advance(
+    mask: u32,
     rows: usize,
     events: usize,
     start: usize,
@@ -124,11 +133,12 @@ pub fn advance(
     count: u16,
     event: usize,
 ) -> Next
-    ensures { λ r. ⌜ r ≡ advanced (tableOf rows events start (now (cells .entry)) (now (marks .entry))) row count event ⌝ }
+    ensures { λ r. ⌜ r ≡ advanced mask (tableOf rows events start (now (cells .entry)) (now (marks .entry))) row count event ⌝ }
 {
     match checked(rows, events, start, cells, marks) {
         rules::Verdict::Refused(number, place) => refused(row, count, number, place),
         rules::Verdict::Fine => advance_within(
+            mask,
             rows,
             events,
             start,
@@ -144,6 +154,7 @@ pub fn advance(
 // The follower takes an event.
 pub fn step(
     f: &mut Follower,
+    mask: u32,
     rows: usize,
     events: usize,
     start: usize,
@@ -152,12 +163,12 @@ pub fn step(
     event: usize,
 ) -> rules::Verdict
     ensures { λ r. ⌜ (let T = tableOf rows events start (now (cells .entry)) (now (marks .entry)) in
-        let next = advanced T (now (f .entry) .row) (now (f .entry) .count) event in
+        let next = advanced mask T (now (f .entry) .row) (now (f .entry) .count) event in
         (now (f .exit) ≡ moved next) × (r ≡ next .verdict)) ⌝ }
 {
     let row = f.row;
     let count = f.count;
-    let next = advance(rows, events, start, cells, marks, row, count, event);
+    let next = advance(mask, rows, events, start, cells, marks, row, count, event);
     f.row = next.row;
     f.count = next.count;
     next.verdict
@@ -172,6 +183,7 @@ pub struct Outcome {
 // The same for a follower by value: it is lent here, and callers need not lend one.
 pub fn stepped(
     f: Follower,
+    mask: u32,
     rows: usize,
     events: usize,
     start: usize,
@@ -180,11 +192,11 @@ pub fn stepped(
     event: usize,
 ) -> Outcome
     ensures { λ r. ⌜ (let T = tableOf rows events start (now (cells .entry)) (now (marks .entry)) in
-        let next = advanced T (f .row) (f .count) event in
+        let next = advanced mask T (f .row) (f .count) event in
         (r .to ≡ moved next) × (r .verdict ≡ next .verdict)) ⌝ }
 {
     let mut g = f;
-    let verdict = step(&mut g, rows, events, start, cells, marks, event);
+    let verdict = step(&mut g, mask, rows, events, start, cells, marks, event);
     Outcome { to: g, verdict }
 }
 

@@ -9,9 +9,9 @@ use lib.ListN.{length, getD, drop}
 use lib.Seq.{getD-take, getD-drop}
 use Rattle.automata.specs.Runs.{Events, Machine}
 use Rattle.tables.specs.Lengths.{distance, lead, oneLess, depth}
-use Rattle.tables.specs.Table.{Table, machine, eventsOf}
+use Rattle.tables.specs.Table.{Table, machine, eventsOf, weightBy}
 use Rattle.tables.proofs.Lengths.{distance-below}
-use Rattle.scratch.specs.Scratch.{triangle, pairAt, weightBy, workable}
+use Rattle.scratch.specs.Scratch.{triangle, pairAt, workable}
 use Rattle.scratch.proofs.Pairs.{pair-lift}
 use Rattle.scratch.proofs.Works.{workable-fine}
 use Rattle.distances.specs.Distances.{measured}

@@ -5,18 +5,18 @@ use Prim.Native.Nat.{ℕ, suc, _+_, _-_, _*_, _≤_, _<_}
 use native.Mathlib.Omega.{arith}
 use lib.ListN.{length, getD, replicate}
 use Rattle.tables.specs.Lists.{tabulate, over}
-use Rattle.tables.specs.Table.{Table, offset, none, Valid, unit, Agrees}
+use Rattle.tables.specs.Table.{Table, offset, none, Valid, Agrees, weightBy}
 use Rattle.tables.specs.Reduction.{reduced}
 use Rattle.tables.proofs.Lists.{tabulate-same}
 use Rattle.tables.proofs.Over.{front-at}
 use Rattle.tables.proofs.Reduced.{sound-of}
-use Rattle.tables.proofs.Theorems.{unit-light, rows-kept, never-grows, far-offset, fewest}
+use Rattle.tables.proofs.Counted.{mask-light}
+use Rattle.tables.proofs.Theorems.{rows-kept, never-grows, far-offset, fewest}
 use Rattle.rules.specs.Rules.{leftBy}
 use Rattle.rules.specs.declared.Verdict.{Verdict}
 use Rattle.rules.specs.declared.Verdict.the-variants.{Fine, Refused}
-use Rattle.scratch.specs.Scratch.{needed, scratchCells, weightBy, cleared}
+use Rattle.scratch.specs.Scratch.{needed, scratchCells, cleared}
 use Rattle.scratch.proofs.Cells.{clear-work}
-use Rattle.scratch.proofs.Weights.{mask-light, all-count}
 use Rattle.scratch.proofs.Works.{valid-workable}
 use Rattle.lengths.specs.Lengths.{lengthsIn}
 use Rattle.lengths.proofs.Found.{lengths-size, lengths-hold, lengths-beyond}
@@ -42,34 +42,34 @@ wrote : (v : Verdict) (m n : ℕ) → answerBy v m ≡ listed.Entries n → (v �
 wrote Fine m n e = (refl, cc)
 wrote (Refused number place) m n e = let z : _≡_ {A = ℕ} 0 1 = cc in absurd (omega arith)
 
-module _ (T : Table) (bytes : (i : ℕ) → getD (T .marks) i 0 < 256) (list scratch : List ℕ) where
+module _ (mask : ℕ) (T : Table) (bytes : (i : ℕ) → getD (T .marks) i 0 < 256) (list scratch : List ℕ) where
   abbrev v : Verdict
-  v = verdict T (length list) (length scratch)
+  v = verdict mask T (length list) (length scratch)
 
   -- What the entries say, once they are the sheet's.
-  module _ (list′ : List ℕ) (h : list′ ≡ leftBy v list (sheet unit T)) (e : v ≡ Fine) where
+  module _ (list′ : List ℕ) (h : list′ ≡ leftBy v list (sheet (weightBy mask) T)) (e : v ≡ Fine) where
     roomy : Roomy T (length list) (length scratch)
-    roomy = fine-roomy T (length list) (length scratch) bytes e
+    roomy = fine-roomy mask T (length list) (length scratch) bytes e
 
-    entry-is : (k : ℕ) → k < entries (T .rows) → getD list′ k 0 ≡ reduced unit (offset k) T .rows
+    entry-is : (k : ℕ) → k < entries (T .rows) → getD list′ k 0 ≡ reduced (weightBy mask) (offset k) T .rows
     unfolding sheet
     entry-is k g =
-        ap (λ (l : List ℕ). getD l k 0) (h ∙ ap (λ (u : Verdict). leftBy u list (sheet unit T)) e)
-        ∙ front-at list (entries (T .rows)) (λ i. reduced unit (offset i) T .rows) (roomy .list-fits) k g
+        ap (λ (l : List ℕ). getD l k 0) (h ∙ ap (λ (u : Verdict). leftBy u list (sheet (weightBy mask) T)) e)
+        ∙ front-at list (entries (T .rows)) (λ i. reduced (weightBy mask) (offset i) T .rows) (roomy .list-fits) k g
 
     entry-falls : (k : ℕ) → suc k < entries (T .rows) → getD list′ (suc k) 0 ≤ getD list′ k 0
     entry-falls k g =
         let less : k ≤ suc k = omega arith in
-        omega (arith, entry-is k (omega arith), entry-is (suc k) g, never-grows unit unit-light T (roomy .valid) (offset k) (offset (suc k)) less)
+        omega (arith, entry-is k (omega arith), entry-is (suc k) g, never-grows (weightBy mask) (mask-light mask T .at-most) T (roomy .valid) (offset k) (offset (suc k)) less)
 
-    last-is : getD list′ (2 * T .rows) 0 ≡ reduced unit none T .rows
-    last-is = entry-is (2 * T .rows) (omega arith) ∙ ap (λ (U : Table). U .rows) (far-offset unit unit-light T (roomy .valid) (2 * T .rows) (omega arith) .0)
+    last-is : getD list′ (2 * T .rows) 0 ≡ reduced (weightBy mask) none T .rows
+    last-is = entry-is (2 * T .rows) (omega arith) ∙ ap (λ (U : Table). U .rows) (far-offset (weightBy mask) (mask-light mask T .at-most) T (roomy .valid) (2 * T .rows) (omega arith) .0)
 
-    entry-fewest : (k : ℕ) → k < entries (T .rows) → (N : Table) → Valid N → N .events ≡ T .events → Agrees unit (offset k) T N → getD list′ k 0 ≤ N .rows
-    entry-fewest k g N w same a = omega (arith, entry-is k g, fewest unit unit-light T (roomy .valid) (offset k) N w same a)
+    entry-fewest : (k : ℕ) → k < entries (T .rows) → (N : Table) → Valid N → N .events ≡ T .events → Agrees (weightBy mask) (offset k) T N → getD list′ k 0 ≤ N .rows
+    entry-fewest k g N w same a = omega (arith, entry-is k g, fewest (weightBy mask) (mask-light mask T .at-most) T (roomy .valid) (offset k) N w same a)
 
-  promise : (r : Listed) (list′ scratch′ : List ℕ) → r ≡ answerBy v (entries (T .rows)) → list′ ≡ leftBy v list (sheet unit T)
-      → scratch′ ≡ leftBy v scratch (replicate (scratchCells (T .rows)) 0) → Promise v T list scratch r list′ scratch′
+  promise : (r : Listed) (list′ scratch′ : List ℕ) → r ≡ answerBy v (entries (T .rows)) → list′ ≡ leftBy v list (sheet (weightBy mask) T)
+      → scratch′ ≡ leftBy v scratch (replicate (scratchCells (T .rows)) 0) → Promise v mask T list scratch r list′ scratch′
   promise r list′ scratch′ hr hl hs =
       let fine : (n : ℕ) → r ≡ listed.Entries n → (v ≡ Fine) × (entries (T .rows) ≡ n) = λ n e. wrote v (entries (T .rows)) n (sym hr ∙ e) in
       record {
@@ -84,28 +84,28 @@ module _ (T : Table) (bytes : (i : ℕ) → getD (T .marks) i 0 < 256) (list scr
 
   -- The code's verdict u is the verdict.
   module _ {u : Verdict} (hu : u ≡ v) where
-    pub promised-refused : (number place : ℕ) → u ≡ Refused number place → Promise v T list scratch (listed.Refused number place) list scratch
+    pub promised-refused : (number place : ℕ) → u ≡ Refused number place → Promise v mask T list scratch (listed.Refused number place) list scratch
     promised-refused number place e =
         let w : v ≡ Refused number place = sym hu ∙ e in
-        promise (listed.Refused number place) list scratch (sym (ap (λ (x : Verdict). answerBy x (entries (T .rows))) w)) (sym (ap (λ (x : Verdict). leftBy x list (sheet unit T)) w))
+        promise (listed.Refused number place) list scratch (sym (ap (λ (x : Verdict). answerBy x (entries (T .rows))) w)) (sym (ap (λ (x : Verdict). leftBy x list (sheet (weightBy mask) T)) w))
         (sym (ap (λ (x : Verdict). leftBy x scratch (replicate (scratchCells (T .rows)) 0)) w))
 
     module _ (e : u ≡ Fine) where
       pub fine-rows : T .rows ≤ 1024
-      fine-rows = fine-roomy T (length list) (length scratch) bytes (sym hu ∙ e) .valid .rows-fit
+      fine-rows = fine-roomy mask T (length list) (length scratch) bytes (sym hu ∙ e) .valid .rows-fit
 
       pub fine-list : entries (T .rows) ≤ length list
-      fine-list = fine-roomy T (length list) (length scratch) bytes (sym hu ∙ e) .list-fits
+      fine-list = fine-roomy mask T (length list) (length scratch) bytes (sym hu ∙ e) .list-fits
 
-      pub promised-fine : (s list′ : List ℕ) {to : ℕ} {scratch′ : List ℕ} → s ≡ lengthsIn 4294967295 T scratch → list′ ≡ over list 0 (tabulate (entries (T .rows)) (keptAt (T .rows) s))
-          → to ≡ needed (T .rows) → scratch′ ≡ cleared s 0 to → Promise v T list scratch (listed.Entries (2 * T .rows + 1)) list′ scratch′
+      pub promised-fine : (s list′ : List ℕ) {to : ℕ} {scratch′ : List ℕ} → s ≡ lengthsIn mask T scratch → list′ ≡ over list 0 (tabulate (entries (T .rows)) (keptAt (T .rows) s))
+          → to ≡ needed (T .rows) → scratch′ ≡ cleared s 0 to → Promise v mask T list scratch (listed.Entries (2 * T .rows + 1)) list′ scratch′
       promised-fine s list′ {to} {scratch′} hs hl ht hc =
           let w : v ≡ Fine = sym hu ∙ e in
-          let r = fine-roomy T (length list) (length scratch) bytes w in
+          let r = fine-roomy mask T (length list) (length scratch) bytes w in
           promise (listed.Entries (2 * T .rows + 1)) list′ scratch′ (sym (ap (λ (x : Verdict). answerBy x (entries (T .rows))) w))
           (hl ∙ ap (λ (x : List ℕ). over list 0 (tabulate (entries (T .rows)) (keptAt (T .rows) x))) hs
-          ∙ ap (over list 0) (sheet-found 4294967295 T scratch (r .valid) (r .scratch-fits) ∙ ap (λ (f : ℕ → ℕ). sheet f T) all-count)
-          ∙ sym (ap (λ (x : Verdict). leftBy x list (sheet unit T)) w))
-          (hc ∙ ap (λ (x : List ℕ). cleared x 0 to) hs ∙ ap (cleared (lengthsIn 4294967295 T scratch) 0) ht
-          ∙ clear-work (T .rows) scratch (lengthsIn 4294967295 T scratch) (r .scratch-fits) (lengths-size 4294967295 T scratch) (λ i g. lengths-beyond 4294967295 T scratch i (omega arith))
+          ∙ ap (over list 0) (sheet-found mask T scratch (r .valid) (r .scratch-fits))
+          ∙ sym (ap (λ (x : Verdict). leftBy x list (sheet (weightBy mask) T)) w))
+          (hc ∙ ap (λ (x : List ℕ). cleared x 0 to) hs ∙ ap (cleared (lengthsIn mask T scratch) 0) ht
+          ∙ clear-work (T .rows) scratch (lengthsIn mask T scratch) (r .scratch-fits) (lengths-size mask T scratch) (λ i g. lengths-beyond mask T scratch i (omega arith))
           ∙ sym (ap (λ (x : Verdict). leftBy x scratch (replicate (scratchCells (T .rows)) 0)) w))

@@ -5,9 +5,9 @@ use Prim.Native.Nat.{ℕ, suc, _+_, _-_, _*_, _≤_, _<_}
 use lib.Dec.{ltb}
 use lib.ListN.{getD, replicate}
 use Rattle.tables.specs.Lists.{tabulate}
-use Rattle.tables.specs.Table.{Table, offset, none, Valid, Agrees, unit}
+use Rattle.tables.specs.Table.{Table, offset, none, Valid, Agrees, weightBy}
 use Rattle.tables.specs.Reduction.{reduced}
-use Rattle.rules.specs.Rules.{rule, judged, leftBy, winch, roomRule, tableChecks}
+use Rattle.rules.specs.Rules.{rule, judged, leftBy, winch, roomRule, maskedChecks}
 use Rattle.rules.specs.declared.Verdict.{Verdict}
 use Rattle.rules.specs.declared.Verdict.the-variants.{Fine, Refused}
 use Rattle.scratch.specs.Scratch.{scratchCells}
@@ -30,26 +30,26 @@ listRule rows list = rule 13 (ltb list (entries rows)) 0
 abbrev pub roomChecks : ℕ → ℕ → ℕ → List Verdict
 roomChecks rows list scratch = roomRule (scratchCells rows) scratch ∷ listRule rows list ∷ []
 
--- Rules 1 to 7 in number order, then 13; the first rule broken, if one is. The lent list and the scratch have so many entries and cells.
-unfoldable pub verdict : Table → ℕ → ℕ → Verdict
-verdict T list scratch = judged (tableChecks winch T ++ roomChecks (T .rows) list scratch)
+-- Rules 1 to 6, 16, 7, then 13; the first rule broken, if one is. The lent list and the scratch have so many entries and cells.
+unfoldable pub verdict : ℕ → Table → ℕ → ℕ → Verdict
+verdict mask T list scratch = judged (maskedChecks winch mask T ++ roomChecks (T .rows) list scratch)
 
 -- The answer: how many entries were written, or the refusal.
 abbrev pub answerBy : Verdict → ℕ → Listed
 answerBy Fine n = listed.Entries n
 answerBy (Refused number place) n = listed.Refused number place
 
--- What a call promises, given what the lent list and the scratch hold before and after, and its answer.
-pub record Promise (v : Verdict) (T : Table) (list scratch : List ℕ) (r : Listed) (list′ scratch′ : List ℕ) : Type 0 where
+-- What a call promises, given which events count, what the lent list and the scratch hold before and after, and its answer.
+pub record Promise (v : Verdict) (mask : ℕ) (T : Table) (list scratch : List ℕ) (r : Listed) (list′ scratch′ : List ℕ) : Type 0 where
   -- Demand 1: the first rule broken gives the answer, and then list and scratch are unchanged.
   pub answers : r ≡ answerBy v (entries (T .rows))
-  pub list-after : list′ ≡ leftBy v list (sheet unit T)
+  pub list-after : list′ ≡ leftBy v list (sheet (weightBy mask) T)
   pub scratch-after : scratch′ ≡ leftBy v scratch (replicate (scratchCells (T .rows)) 0)
   -- Each of the n entries is the row count of that offset's reduction;
-  pub entry : (n : ℕ) → r ≡ listed.Entries n → (k : ℕ) → k < n → getD list′ k 0 ≡ reduced unit (offset k) T .rows
+  pub entry : (n : ℕ) → r ≡ listed.Entries n → (k : ℕ) → k < n → getD list′ k 0 ≡ reduced (weightBy mask) (offset k) T .rows
   -- "no entry exceeds the one before it";
   pub falls : (n : ℕ) → r ≡ listed.Entries n → (k : ℕ) → suc k < n → getD list′ (suc k) 0 ≤ getD list′ k 0
   -- "the last is the count for no offset".
-  pub last : (n : ℕ) → r ≡ listed.Entries n → getD list′ (n - 1) 0 ≡ reduced unit none T .rows
-  -- Demand 3: every table over the same events that agrees from offset k on has at least entry k rows.
-  pub demand-3 : (n : ℕ) → r ≡ listed.Entries n → (k : ℕ) → k < n → (N : Table) → Valid N → N .events ≡ T .events → Agrees unit (offset k) T N → getD list′ k 0 ≤ N .rows
+  pub last : (n : ℕ) → r ≡ listed.Entries n → getD list′ (n - 1) 0 ≡ reduced (weightBy mask) none T .rows
+  -- Demand 3: every table over the same events, of which the same count, that agrees from offset k on has at least entry k rows.
+  pub demand-3 : (n : ℕ) → r ≡ listed.Entries n → (k : ℕ) → k < n → (N : Table) → Valid N → N .events ≡ T .events → Agrees (weightBy mask) (offset k) T N → getD list′ k 0 ≤ N .rows

@@ -12,9 +12,6 @@ pub enum Listed {
     Refused(usize, usize),
 }
 
-// Every event counts.
-const ALL: u32 = 4294967295;
-
 // Rule 7 for the scratch, then 13 for the list, for a table of so many rows.
 fn check_room(rows: u16, list: usize, scratch: usize) -> rules::Verdict
     ensures { λ r. ⌜ r ≡ judged (roomChecks rows list scratch) ⌝ }
@@ -28,8 +25,9 @@ fn check_room(rows: u16, list: usize, scratch: usize) -> rules::Verdict
     rules::Verdict::Fine
 }
 
-// Rules 1 to 7, then 13.
+// Rules 1 to 6, 16, 7, then 13.
 fn check(
+    mask: u32,
     rows: usize,
     events: usize,
     start: usize,
@@ -38,16 +36,17 @@ fn check(
     list: usize,
     scratch: usize,
 ) -> rules::Verdict
-    ensures { λ r. ⌜ r ≡ verdict (tableOf rows events start (now (cells .entry)) (now (marks .entry))) list scratch ⌝ }
+    ensures { λ r. ⌜ r ≡ verdict mask (tableOf rows events start (now (cells .entry)) (now (marks .entry))) list scratch ⌝ }
 {
-    match rules::check_table(rules::winch(), rows, events, start, cells, marks) {
+    match rules::check_masked(rules::winch(), mask, rows, events, start, cells, marks) {
         rules::Verdict::Refused(number, place) => rules::Verdict::Refused(number, place),
         rules::Verdict::Fine => check_room(rows as u16, list, scratch),
     }
 }
 
-// Lists the fewest rows of a table at every offset from 0 to twice its rows.
+// Lists the fewest rows of a table at every offset from 0 to twice its rows, where a mask says which events count.
 pub fn write_sheet(
+    mask: u32,
     rows: usize,
     events: usize,
     start: usize,
@@ -58,12 +57,21 @@ pub fn write_sheet(
 ) -> Listed
     ensures { λ r. ⌜ (let T = tableOf rows events start (now (cells .entry)) (now (marks .entry)) in
         let l = now (list .entry) in let s = now (scratch .entry) in
-        Promise (verdict T (length l) (length s)) T l s r (now (list .exit)) (now (scratch .exit))) ⌝ }
+        Promise (verdict mask T (length l) (length s)) mask T l s r (now (list .exit)) (now (scratch .exit))) ⌝ }
 {
-    match check(rows, events, start, cells, marks, list.len(), scratch.len()) {
+    match check(
+        mask,
+        rows,
+        events,
+        start,
+        cells,
+        marks,
+        list.len(),
+        scratch.len(),
+    ) {
         rules::Verdict::Refused(number, place) => Listed::Refused(number, place),
         rules::Verdict::Fine => {
-            lengths::find_lengths(ALL, rows, events, start, cells, marks, scratch);
+            lengths::find_lengths(mask, rows, events, start, cells, marks, scratch);
             let n = rows as u16;
             counts::fill(scratch, n, list);
             scratch::clear(scratch, 0, scratch::needed(n));

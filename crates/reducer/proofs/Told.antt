@@ -9,13 +9,14 @@ use lib.Dec.{eqb}
 use lib.ListN.{length}
 use Rattle.automata.specs.Runs.{Events, Machine, Len, len, endless}
 use Rattle.tables.specs.Lists.{tabulate, some}
-use Rattle.tables.specs.Table.{Table, Offset, Valid, machine, eventsOf, unit}
+use Rattle.tables.specs.Table.{Table, Offset, Valid, machine, eventsOf, weightBy}
 use Rattle.tables.specs.Lengths.{isZero, oneLess, lead, reached, depth}
 use Rattle.tables.specs.Reduction as spec
 use Rattle.tables.specs.Reduction.{kept, fold, number, records}
 use Rattle.tables.proofs.Lists.{tabulate-same}
 use Rattle.tables.proofs.Lengths.{Below, depth-below}
-use Rattle.tables.proofs.Theorems.{unit-light, kept-itself}
+use Rattle.tables.proofs.Counted.{mask-light}
+use Rattle.tables.proofs.Theorems.{kept-itself}
 use Rattle.scratch.specs.Scratch.{needed, lenCell}
 use Rattle.records.specs.declared.Record.{Record}
 use Rattle.records.specs.declared.Depth.{Depth}
@@ -45,9 +46,9 @@ unfolding tabulate
 map-tabulate g zero f = refl
 map-tabulate g (suc n) f = ap (λ (l : List _). g (f 0) ∷ l) (map-tabulate g n (λ i. f (suc i)))
 
-module _ (k : Offset) (T : Table) (v : Valid T) (s : List ℕ) (room : needed (T .rows) ≤ length s) where
+module _ (k : Offset) (mask : ℕ) (T : Table) (v : Valid T) (s : List ℕ) (room : needed (T .rows) ≤ length s) where
   abbrev E : Events
-  E = eventsOf unit T
+  E = eventsOf (weightBy mask) T
 
   abbrev M : Machine
   M = machine T
@@ -56,15 +57,15 @@ module _ (k : Offset) (T : Table) (v : Valid T) (s : List ℕ) (room : needed (T
   abbrev told : ℕ → spec.Record
   told q = record { depth = depth E M q; fate = spec.fateOf E M k q }
 
-  record-told : (q : ℕ) → q < T .rows → recordAt (worked k T s) (T .rows) q ≡ recordOf (told q)
+  record-told : (q : ℕ) → q < T .rows → recordAt (worked k mask T s) (T .rows) q ≡ recordOf (told q)
   unfolding depth spec.fateOf reached
   record-told q h =
       let c : ℕ = lenCell (lead E M q) in
       let d = depth-told (T .rows) (v .rows-fit) (lead E M q) (depth-below E M q (v .some-row)) in
-      let f = fate-told c (isZero (lead E M q)) (some (eqb q) (kept E M k)) q (fold E M k q) (number E M (fold E M k) q) (zero-cell (lead E M q)) (kept-itself unit unit-light T v k q h) in
-      rw (worked-lead k T v s room q h, worked-fold k T v s room q h, worked-number k T v s room q h)
+      let f = fate-told c (isZero (lead E M q)) (some (eqb q) (kept E M k)) q (fold E M k q) (number (E .count) M (fold E M k) q) (zero-cell (lead E M q)) (kept-itself (weightBy mask) (mask-light mask T .at-most) T v k q h) in
+      rw (worked-lead k mask T v s room q h, worked-fold k mask T v s room q h, worked-number k mask T v s room q h)
       (ap₂ (λ (x : Depth) (y : Fate). record { depth = x; fate = y }) d f)
 
-  pub all-told : tabulate (T .rows) (recordAt (worked k T s) (T .rows)) ≡ map recordOf (records unit k T)
+  pub all-told : tabulate (T .rows) (recordAt (worked k mask T s) (T .rows)) ≡ map recordOf (records (weightBy mask) k T)
   unfolding records
-  all-told = tabulate-same (T .rows) (recordAt (worked k T s) (T .rows)) (λ q. recordOf (told q)) record-told ∙ sym (map-tabulate recordOf (T .rows) told)
+  all-told = tabulate-same (T .rows) (recordAt (worked k mask T s) (T .rows)) (λ q. recordOf (told q)) record-told ∙ sym (map-tabulate recordOf (T .rows) told)

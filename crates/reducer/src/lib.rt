@@ -2,16 +2,17 @@
 ghost use mathlib.Core.Path.{_≡_};
 ghost use lib.ListN.{length};
 ghost use Rattle.rules.specs.Rules.{tableOf, offsetOf};
-ghost use Rattle.tables.specs.Table.{unit};
+ghost use Rattle.tables.specs.Table.{weightBy};
 ghost use Rattle.tables.specs.Reduction.{records as recordsOf};
 ghost use Rattle.reduction.specs.Reduce.{verdict, Promise};
 ghost use Rattle.reducer.specs.Recorded.{recordsBy};
 use records::Record;
 use reduction::Answer;
 
-// Shortens a table: the new one is written into the lent cells and mark bytes, a record of each given row into the lent records; the scratch is cleared.
+// Shortens a table, where a mask says which events count: the new one is written into the lent cells and mark bytes, a record of each given row into the lent records; the scratch is cleared.
 pub fn reduce(
     offset: rules::Offset,
+    mask: u32,
     rows: usize,
     events: usize,
     start: usize,
@@ -24,12 +25,13 @@ pub fn reduce(
 ) -> Answer
     ensures { λ r. ⌜ (let T = tableOf rows events start (now (cells .entry)) (now (marks .entry)) in let k = offsetOf offset in
         let lent = now (newcells .entry) in let bytes = now (newmarks .entry) in let before = now (records .entry) in let s = now (scratch .entry) in
-        let v = verdict T (length lent) (length bytes) (length before) (length s) in
-        Promise v k T lent bytes s r (now (newcells .exit)) (now (newmarks .exit)) (now (scratch .exit))
-        × (now (records .exit) ≡ recordsBy v before (recordsOf unit k T))) ⌝ }
+        let v = verdict mask T (length lent) (length bytes) (length before) (length s) in
+        Promise v k mask T lent bytes s r (now (newcells .exit)) (now (newmarks .exit)) (now (scratch .exit))
+        × (now (records .exit) ≡ recordsBy v before (recordsOf (weightBy mask) k T))) ⌝ }
 {
     let w = reduction::work(
         offset,
+        mask,
         rows,
         events,
         start,
@@ -55,6 +57,7 @@ pub struct Outcome {
 // The same with an array of records by value: it is lent here, and callers need not lend one.
 pub fn reduce_recorded(
     offset: rules::Offset,
+    mask: u32,
     rows: usize,
     events: usize,
     start: usize,
@@ -67,13 +70,14 @@ pub fn reduce_recorded(
 ) -> Outcome
     ensures { λ r. ⌜ (let T = tableOf rows events start (now (cells .entry)) (now (marks .entry)) in let k = offsetOf offset in
         let lent = now (newcells .entry) in let bytes = now (newmarks .entry) in let s = now (scratch .entry) in
-        let v = verdict T (length lent) (length bytes) 1024 (length s) in
-        Promise v k T lent bytes s (r .answer) (now (newcells .exit)) (now (newmarks .exit)) (now (scratch .exit))
-        × (r .records ≡ recordsBy v blank (recordsOf unit k T))) ⌝ }
+        let v = verdict mask T (length lent) (length bytes) 1024 (length s) in
+        Promise v k mask T lent bytes s (r .answer) (now (newcells .exit)) (now (newmarks .exit)) (now (scratch .exit))
+        × (r .records ≡ recordsBy v blank (recordsOf (weightBy mask) k T))) ⌝ }
 {
     let mut records = blank;
     let answer = reduce(
         offset,
+        mask,
         rows,
         events,
         start,

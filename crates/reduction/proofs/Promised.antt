@@ -7,10 +7,11 @@ use native.Mathlib.Omega.{arith}
 use lib.ListN.{length, take, replicate}
 use Rattle.automata.specs.Runs.{AgreeFrom}
 use Rattle.tables.specs.Lists.{over}
-use Rattle.tables.specs.Table.{Table, Offset, offset, none, Valid, markBytes, machine, eventsOf, unit, Fewest}
+use Rattle.tables.specs.Table.{Table, Offset, offset, none, Valid, markBytes, machine, eventsOf, weightBy, Fewest}
 use Rattle.tables.specs.Reduction.{reduced}
 use Rattle.tables.proofs.Over.{over-none, take-over}
-use Rattle.tables.proofs.Theorems.{unit-light, never-more, valid, agrees, agrees-none, fewest, same-events, start-zero}
+use Rattle.tables.proofs.Counted.{mask-light}
+use Rattle.tables.proofs.Theorems.{never-more, valid, agrees, agrees-none, fewest, same-events, start-zero}
 use Rattle.rules.specs.Rules.{leftBy}
 use Rattle.rules.specs.declared.Verdict.{Verdict}
 use Rattle.rules.specs.declared.Verdict.the-variants.{Fine, Refused}
@@ -34,32 +35,32 @@ table : (U : Table) {c m : List ℕ} {e s : ℕ} → c ≡ U .cells → m ≡ U 
     → _≡_ {A = Table} (record { rows = U .rows; events = e; start = s; cells = c; marks = m }) U
 table U hc hm he hs = rw (hc, hm, he, hs)
 
-module _ (k : Offset) (T : Table) (cells marks scratch : List ℕ) (records : ℕ) (sound : verdict T (length cells) (length marks) records (length scratch) ≡ Fine → Valid T) where
+module _ (k : Offset) (mask : ℕ) (T : Table) (cells marks scratch : List ℕ) (records : ℕ) (sound : verdict mask T (length cells) (length marks) records (length scratch) ≡ Fine → Valid T) where
   abbrev v : Verdict
-  v = verdict T (length cells) (length marks) records (length scratch)
+  v = verdict mask T (length cells) (length marks) records (length scratch)
 
   abbrev U : Table
-  U = reduced unit k T
+  U = reduced (weightBy mask) k T
 
   -- What stands in the buffers is the reduced table.
   written-is : Roomy T (length cells) (length marks) records (length scratch) → written (U .rows) (T .events) (over cells 0 (U .cells)) (over marks 0 (U .marks)) ≡ U
   written-is r =
-      let w = valid unit unit-light T (r .valid) k in
-      let rows = never-more unit unit-light T (r .valid) k in
-      let e = same-events unit unit-light T (r .valid) k in
+      let w = valid (weightBy mask) (mask-light mask T .at-most) T (r .valid) k in
+      let rows = never-more (weightBy mask) (mask-light mask T .at-most) T (r .valid) k in
+      let e = same-events (weightBy mask) (mask-light mask T .at-most) T (r .valid) k in
       let wide : U .rows * T .events ≡ 0 + length (U .cells) = omega (arith, w .all-cells, ap (λ (m : ℕ). U .rows * m) e) in
       let bytes : markBytes (U .rows) ≡ 0 + length (U .marks) = omega (arith, w .all-marks) in
       let cells-fit : 0 + length (U .cells) ≤ length cells = omega (arith, r .cells-fit, mul-le-mul-right (T .events) rows) in
       let marks-fit : 0 + length (U .marks) ≤ length marks = omega (arith, r .marks-fit) in
       table U (ap (λ (m : ℕ). take m (over cells 0 (U .cells))) wide ∙ take-over cells 0 (U .cells) cells-fit)
-      (ap (λ (m : ℕ). take m (over marks 0 (U .marks))) bytes ∙ take-over marks 0 (U .marks) marks-fit) (sym e) (sym (start-zero unit unit-light T (r .valid) k))
+      (ap (λ (m : ℕ). take m (over marks 0 (U .marks))) bytes ∙ take-over marks 0 (U .marks) marks-fit) (sym e) (sym (start-zero (weightBy mask) (mask-light mask T .at-most) T (r .valid) k))
 
-  agrees-from : Valid T → AgreeFrom (eventsOf unit T) (from k T) (machine T) (machine U)
+  agrees-from : Valid T → AgreeFrom (eventsOf (weightBy mask) T) (from k T) (machine T) (machine U)
   agrees-from h = pick k
     where
-      pick : (j : Offset) → AgreeFrom (eventsOf unit T) (from j T) (machine T) (machine (reduced unit j T))
-      pick (offset j) = agrees unit unit-light T h (offset j)
-      pick none = agrees-none unit unit-light T h
+      pick : (j : Offset) → AgreeFrom (eventsOf (weightBy mask) T) (from j T) (machine T) (machine (reduced (weightBy mask) j T))
+      pick (offset j) = agrees (weightBy mask) (mask-light mask T .at-most) T h (offset j)
+      pick none = agrees-none (weightBy mask) (mask-light mask T .at-most) T h
 
   -- Demands 2 and 3 of what was written.
   module _ (r : Answer) (cells′ marks′ : List ℕ) (hr : r ≡ answerBy v (U .rows)) (hc : cells′ ≡ leftBy v cells (U .cells)) (hm : marks′ ≡ leftBy v marks (U .marks)) (n : ℕ) (e : r ≡ answer.Reduced n) where
@@ -67,7 +68,7 @@ module _ (k : Offset) (T : Table) (cells marks scratch : List ℕ) (records : �
     fine = counted v (U .rows) n (sym hr ∙ e) .0
 
     roomy : Roomy T (length cells) (length marks) records (length scratch)
-    roomy = fine-roomy T (length cells) (length marks) records (length scratch) fine (sound fine)
+    roomy = fine-roomy mask T (length cells) (length marks) records (length scratch) fine (sound fine)
 
     stands : written n (T .events) cells′ marks′ ≡ U
     stands =
@@ -76,27 +77,27 @@ module _ (k : Offset) (T : Table) (cells marks scratch : List ℕ) (records : �
         ∙ ap (written (U .rows) (T .events) (over cells 0 (U .cells))) (hm ∙ ap (λ (u : Verdict). leftBy u marks (U .marks)) fine)
         ∙ written-is roomy
 
-    keeps-2 : AgreeFrom (eventsOf unit T) (from k T) (machine T) (machine (written n (T .events) cells′ marks′))
-    keeps-2 = subst (λ (N : Table). AgreeFrom (eventsOf unit T) (from k T) (machine T) (machine N)) (sym stands) (agrees-from (roomy .valid))
+    keeps-2 : AgreeFrom (eventsOf (weightBy mask) T) (from k T) (machine T) (machine (written n (T .events) cells′ marks′))
+    keeps-2 = subst (λ (N : Table). AgreeFrom (eventsOf (weightBy mask) T) (from k T) (machine T) (machine N)) (sym stands) (agrees-from (roomy .valid))
 
-    keeps-3 : Fewest unit k T (written n (T .events) cells′ marks′)
-    keeps-3 = subst (Fewest unit k T) (sym stands) (fewest unit unit-light T (roomy .valid) k)
+    keeps-3 : Fewest (weightBy mask) k T (written n (T .events) cells′ marks′)
+    keeps-3 = subst (Fewest (weightBy mask) k T) (sym stands) (fewest (weightBy mask) (mask-light mask T .at-most) T (roomy .valid) k)
 
     keeps-valid : let N = written n (T .events) cells′ marks′ in Valid N × (N .events ≡ T .events)
-    keeps-valid = (subst Valid (sym stands) (valid unit unit-light T (roomy .valid) k), refl)
+    keeps-valid = (subst Valid (sym stands) (valid (weightBy mask) (mask-light mask T .at-most) T (roomy .valid) k), refl)
 
   -- Cleared after the work, the scratch is as promised.
-  finished : (u : Verdict) → verdict T (length cells) (length marks) records (length scratch) ≡ u
-      → cleared (workedBy u k T scratch) 0 (needed (recorded u (T .rows))) ≡ leftBy u scratch (replicate (scratchCells (T .rows)) 0)
+  finished : (u : Verdict) → verdict mask T (length cells) (length marks) records (length scratch) ≡ u
+      → cleared (workedBy u k mask T scratch) 0 (needed (recorded u (T .rows))) ≡ leftBy u scratch (replicate (scratchCells (T .rows)) 0)
   unfolding triangle
   finished Fine e =
-      let r = fine-roomy T (length cells) (length marks) records (length scratch) e (sound e) in
-      worked-cleared k T (r .valid) scratch (r .scratch-fits)
+      let r = fine-roomy mask T (length cells) (length marks) records (length scratch) e (sound e) in
+      worked-cleared k mask T (r .valid) scratch (r .scratch-fits)
   finished (Refused number place) e = clear-front scratch 0 (omega arith) ∙ over-none scratch 0
 
   -- The promise: w is what the work answers, and t the scratch that it leaves.
-  pub promised : (w : Done) (cells′ marks′ t scratch′ : List ℕ) → w ≡ workBy v k T → cells′ ≡ leftBy v cells (U .cells) → marks′ ≡ leftBy v marks (U .marks)
-      → t ≡ workedBy v k T scratch → scratch′ ≡ cleared t 0 (needed (w .rows)) → Promise v k T cells marks scratch (w .answer) cells′ marks′ scratch′
+  pub promised : (w : Done) (cells′ marks′ t scratch′ : List ℕ) → w ≡ workBy v k mask T → cells′ ≡ leftBy v cells (U .cells) → marks′ ≡ leftBy v marks (U .marks)
+      → t ≡ workedBy v k mask T scratch → scratch′ ≡ cleared t 0 (needed (w .rows)) → Promise v k mask T cells marks scratch (w .answer) cells′ marks′ scratch′
   promised w cells′ marks′ t scratch′ hw hc hm ht hs =
       let hr : w .answer ≡ answerBy v (U .rows) = ap (λ (d : Done). d .answer) hw in
       record {

@@ -1,13 +1,13 @@
 -- Rule 7, check by check, and what it means that no rule is broken.
 use mathlib.Core.Path.{_≡_, sym, ap, subst, _∙_}
 use mathlib.Core.Bool.{true}
-use mathlib.Core.List.{List}
+use mathlib.Core.List.{List, [], _∷_}
 use Prim.Native.Nat.{ℕ, _-_, _*_, _≤_, _<_}
 use native.Mathlib.Omega.{arith}
 use borrow.Author.Tests.{ltb-false}
 use lib.ListN.{getD}
 use Rattle.tables.specs.Table.{Table, Valid, markBytes}
-use Rattle.rules.specs.Rules.{judged, winch, tableChecks}
+use Rattle.rules.specs.Rules.{judged, winch, maskRule, maskedChecks}
 use Rattle.rules.specs.declared.Limits.{Limits}
 use Rattle.rules.specs.declared.Verdict.{Verdict}
 use Rattle.rules.specs.declared.Verdict.the-variants.{Fine, Refused}
@@ -52,18 +52,18 @@ module _ (rows events cells marks records scratch : ℕ) where
             let g : scratchCells rows ≤ scratch = omega (arith, needed-value rows) in
             sym (rw (room-kept (rows * events) (cells) c, room-kept (markBytes rows) (marks) m, room-kept (rows) (records) r, room-kept (scratchCells rows) (scratch) g))
 
--- The verdict as the code makes it: of the table's checks with the limits given, and then of the room.
-module _ (T : Table) (cells marks records scratch : ℕ) {L : Limits} {v : Verdict} (l : L ≡ winch) (e : v ≡ judged (tableChecks L T)) where
+-- The verdict as the code makes it: of the table's and the mask's checks with the limits given, and then of the room.
+module _ (mask : ℕ) (T : Table) (cells marks records scratch : ℕ) {L : Limits} {v : Verdict} (l : L ≡ winch) (e : v ≡ judged (maskedChecks L mask T)) where
   abbrev room : List Verdict
   room = roomChecks (T .rows) (T .events) cells marks records scratch
 
-  pub verdict-refused : (number place : ℕ) → v ≡ Refused number place → Refused number place ≡ verdict T cells marks records scratch
+  pub verdict-refused : (number place : ℕ) → v ≡ Refused number place → Refused number place ≡ verdict mask T cells marks records scratch
   unfolding verdict
-  verdict-refused = table-refused T l e room
+  verdict-refused = table-refused T (maskRule mask (T .events) ∷ []) l e room
 
-  pub verdict-room : v ≡ Fine → {u : Verdict} → u ≡ judged room → u ≡ verdict T cells marks records scratch
+  pub verdict-room : v ≡ Fine → {u : Verdict} → u ≡ judged room → u ≡ verdict mask T cells marks records scratch
   unfolding verdict
-  verdict-room h g = table-then T l e h room g
+  verdict-room h g = table-then T (maskRule mask (T .events) ∷ []) l e h room g
 
 -- No rule broken: the table is valid, and each buffer is long enough.
 pub record Roomy (T : Table) (cells marks records scratch : ℕ) : Type 0 where
@@ -73,22 +73,22 @@ pub record Roomy (T : Table) (cells marks records scratch : ℕ) : Type 0 where
   pub records-fit : T .rows ≤ records
   pub scratch-fits : needed (T .rows) ≤ scratch
 
-module _ (T : Table) (cells marks records scratch : ℕ) (e : verdict T cells marks records scratch ≡ Fine) where
+module _ (mask : ℕ) (T : Table) (cells marks records scratch : ℕ) (e : verdict mask T cells marks records scratch ≡ Fine) where
   pub verdict-valid : ((i : ℕ) → getD (T .marks) i 0 < 256) → Valid T
   unfolding verdict
-  verdict-valid bytes = fine-valid T (roomChecks (T .rows) (T .events) cells marks records scratch) e bytes
+  verdict-valid bytes = fine-valid T (maskRule mask (T .events) ∷ roomChecks (T .rows) (T .events) cells marks records scratch) e bytes
 
   pub fine-roomy : Valid T → Roomy T cells marks records scratch
   unfolding verdict
   fine-roomy v =
-      let room = roomChecks (T .rows) (T .events) cells marks records scratch in
-      let at = passed room (more-fine T room e) in
-      let enough : scratchCells (T .rows) ≤ scratch = ltb-false _ _ (unbroken _ _ _ (at 3)) in
+      let more = maskRule mask (T .events) ∷ roomChecks (T .rows) (T .events) cells marks records scratch in
+      let at = passed more (more-fine T more e) in
+      let enough : scratchCells (T .rows) ≤ scratch = ltb-false _ _ (unbroken _ _ _ (at 4)) in
       record {
         valid = v;
-        cells-fit = ltb-false _ _ (unbroken _ _ _ (at 0));
-        marks-fit = ltb-false _ _ (unbroken _ _ _ (at 1));
-        records-fit = ltb-false _ _ (unbroken _ _ _ (at 2));
+        cells-fit = ltb-false _ _ (unbroken _ _ _ (at 1));
+        marks-fit = ltb-false _ _ (unbroken _ _ _ (at 2));
+        records-fit = ltb-false _ _ (unbroken _ _ _ (at 3));
         scratch-fits = omega (arith, needed-value (T .rows));
       }
 

@@ -2,7 +2,7 @@
 ghost use mathlib.Core.Path.{_≡_};
 ghost use lib.ListN.{length};
 ghost use Rattle.rules.specs.Rules.{tableOf, offsetOf, judged, leftBy};
-ghost use Rattle.tables.specs.Table.{Valid, unit};
+ghost use Rattle.tables.specs.Table.{Valid, weightBy};
 ghost use Rattle.rules.specs.declared.Verdict.the-variants.{Fine};
 ghost use Rattle.tables.specs.Reduction.{reduced};
 ghost use Rattle.scratch.specs.Scratch.{needed, cleared};
@@ -20,9 +20,6 @@ pub struct Done {
     pub answer: Answer,
     pub rows: u16,
 }
-
-// Every event counts.
-const ALL: u32 = 4294967295;
 
 // Rule 7: the lent cells, mark bytes, records and scratch cells, for a table of so many rows and events.
 fn check_room(
@@ -50,8 +47,9 @@ fn check_room(
     rules::Verdict::Fine
 }
 
-// Rules 1 to 7.
+// Rules 1 to 6, 16 and 7.
 fn check(
+    mask: u32,
     rows: usize,
     events: usize,
     start: usize,
@@ -62,9 +60,9 @@ fn check(
     recordroom: usize,
     room: usize,
 ) -> rules::Verdict
-    ensures { λ r. ⌜ r ≡ verdict (tableOf rows events start (now (cells .entry)) (now (marks .entry))) cellroom markroom recordroom room ⌝ }
+    ensures { λ r. ⌜ r ≡ verdict mask (tableOf rows events start (now (cells .entry)) (now (marks .entry))) cellroom markroom recordroom room ⌝ }
 {
-    match rules::check_table(rules::winch(), rows, events, start, cells, marks) {
+    match rules::check_masked(rules::winch(), mask, rows, events, start, cells, marks) {
         rules::Verdict::Refused(number, place) => rules::Verdict::Refused(number, place),
         rules::Verdict::Fine => check_room(
             rows as u16,
@@ -80,6 +78,7 @@ fn check(
 // Checks, reduces, and writes the new table; what the records say stands in scratch.
 pub fn work(
     offset: rules::Offset,
+    mask: u32,
     rows: usize,
     events: usize,
     start: usize,
@@ -92,14 +91,15 @@ pub fn work(
 ) -> Done
     ensures { λ r. ⌜ (let T = tableOf rows events start (now (cells .entry)) (now (marks .entry)) in let k = offsetOf offset in
         let lent = now (newcells .entry) in let bytes = now (newmarks .entry) in let s = now (scratch .entry) in
-        let v = verdict T (length lent) (length bytes) room (length s) in
-        (r ≡ workBy v k T)
-        × (now (newcells .exit) ≡ leftBy v lent (reduced unit k T .cells))
-        × (now (newmarks .exit) ≡ leftBy v bytes (reduced unit k T .marks))
-        × (now (scratch .exit) ≡ workedBy v k T s)
+        let v = verdict mask T (length lent) (length bytes) room (length s) in
+        (r ≡ workBy v k mask T)
+        × (now (newcells .exit) ≡ leftBy v lent (reduced (weightBy mask) k T .cells))
+        × (now (newmarks .exit) ≡ leftBy v bytes (reduced (weightBy mask) k T .marks))
+        × (now (scratch .exit) ≡ workedBy v k mask T s)
         × (v ≡ Fine → Valid T)) ⌝ }
 {
     match check(
+        mask,
         rows,
         events,
         start,
@@ -115,7 +115,7 @@ pub fn work(
             rows: 0,
         },
         rules::Verdict::Fine => {
-            folding::fold_rows(offset, ALL, rows, events, start, cells, marks, scratch);
+            folding::fold_rows(offset, mask, rows, events, start, cells, marks, scratch);
             let left = renumbering::renumber(
                 rows,
                 events,
@@ -144,6 +144,7 @@ pub fn finish(scratch: &mut [u16], rows: u16)
 // Shortens a table without records: callers lend no structs.
 pub fn reduce_table(
     offset: rules::Offset,
+    mask: u32,
     rows: usize,
     events: usize,
     start: usize,
@@ -155,11 +156,12 @@ pub fn reduce_table(
 ) -> Answer
     ensures { λ r. ⌜ (let T = tableOf rows events start (now (cells .entry)) (now (marks .entry)) in
         let lent = now (newcells .entry) in let bytes = now (newmarks .entry) in let s = now (scratch .entry) in
-        let v = verdict T (length lent) (length bytes) rows (length s) in
-        Promise v (offsetOf offset) T lent bytes s r (now (newcells .exit)) (now (newmarks .exit)) (now (scratch .exit))) ⌝ }
+        let v = verdict mask T (length lent) (length bytes) rows (length s) in
+        Promise v (offsetOf offset) mask T lent bytes s r (now (newcells .exit)) (now (newmarks .exit)) (now (scratch .exit))) ⌝ }
 {
     let w = work(
         offset,
+        mask,
         rows,
         events,
         start,

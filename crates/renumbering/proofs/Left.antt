@@ -9,7 +9,7 @@ use borrow.Author.Tests.{lt-ltb, le-leb, lt-leb}
 use lib.Dec.{leb}
 use lib.ListN.{length, getD}
 use Rattle.tables.specs.Lists.{tabulate, place, over}
-use Rattle.tables.specs.Table.{Table, Valid, markOf, markBytes, machine, eventsOf, unit, targetOf, pack}
+use Rattle.tables.specs.Table.{Table, Valid, markOf, markBytes, machine, targetOf, pack}
 use Rattle.tables.specs.Reduction.{number, renumbered}
 use Rattle.tables.proofs.Lists.{tabulate-length, tabulate-at, tabulate-same}
 use Rattle.tables.proofs.Over.{over-length, over-part, over-inside, over-before, over-behind}
@@ -60,7 +60,7 @@ module _ (T : Table) (v : Valid T) (s : List ℕ) (room : needed (T .rows) ≤ l
 
       numbers-length : length (numberCells T s) ≡ n
       unfolding numberCells
-      numbers-length = tabulate-length n (number (eventsOf unit T) (machine T) (foldIn s n))
+      numbers-length = tabulate-length n (number (T .events) (machine T) (foldIn s n))
 
       fits : numbersAt n + length (numberCells T s) ≤ length t
       fits = omega (arith, lined-room, numbers-length)
@@ -74,12 +74,12 @@ module _ (T : Table) (v : Valid T) (s : List ℕ) (room : needed (T .rows) ≤ l
           ∙ over-before t (numbersAt n) (numberCells T s) fits (queueAt n + i) 0 (omega (arith, short))
           ∙ ap (λ (u : List ℕ). getD u (queueAt n + i) 0) e ∙ over-inside s (queueAt n) (line T s) inside i 0 h
 
-      read-number : (q : ℕ) → q < n → getD w (numbersAt n + q) 0 ≡ number (eventsOf unit T) (machine T) (foldIn s n) q
+      read-number : (q : ℕ) → q < n → getD w (numbersAt n + q) 0 ≡ number (T .events) (machine T) (foldIn s n) q
       unfolding numberCells
       read-number q h =
           ap (λ (u : List ℕ). getD u (numbersAt n + q) 0) all
           ∙ over-inside t (numbersAt n) (numberCells T s) fits q 0 (omega (arith, numbers-length))
-          ∙ tabulate-at n (number (eventsOf unit T) (machine T) (foldIn s n)) q 0 h
+          ∙ tabulate-at n (number (T .events) (machine T) (foldIn s n)) q 0 h
 
       -- The targets and marks that are read off.
       pub left-cells : (total : ℕ) → total ≡ count * T .events → tabulate total (newTarget (T .cells) n (T .events) w) ≡ left T s .cells

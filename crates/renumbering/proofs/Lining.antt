@@ -10,7 +10,7 @@ use lib.ListN.{length, getD, set}
 use lib.Seq.{set-getD, getD-set-same}
 use Rattle.automata.proofs.Lists.{Mem}
 use Rattle.tables.specs.Lists.{tabulate, sift, over}
-use Rattle.tables.specs.Table.{Table, Valid, machine, eventsOf, unit, targetOf}
+use Rattle.tables.specs.Table.{Table, Valid, machine, targetOf}
 use Rattle.tables.specs.Reduction.{met, numbering}
 use Rattle.tables.proofs.Lists.{read-same, read-below, mem-tabulate, tabulate-mem, tabulate-length, tabulate-same}
 use Rattle.tables.proofs.Numbering.{numbering-starts, met-stops}
@@ -30,7 +30,7 @@ module _ (T : Table) (v : Valid T) (s : List ℕ) (room : needed (T .rows) ≤ l
 
   -- the line after i rows of it have been gone through
   abbrev pub inLine : ℕ → List ℕ
-  inLine i = met (eventsOf unit T) (machine T) f i
+  inLine i = met (T .events) (machine T) f i
 
   fold-mem : (q : ℕ) → q < T .rows → Mem (f q) (tabulate (T .rows) f)
   fold-mem q h = mem-tabulate (T .rows) f q h
@@ -112,13 +112,13 @@ module _ (T : Table) (v : Valid T) (s : List ℕ) (room : needed (T .rows) ≤ l
   -- All that are met have been gone through.
   pub lined : (i : ℕ) → length (inLine i) ≤ i → i ≤ T .rows → inLine i ≡ line T s
   unfolding line
-  lined i h g = sym (met-stops (eventsOf unit T) (machine T) f (tabulate (T .rows) f) (fold-mem (T .start) (v .start-in))
+  lined i h g = sym (met-stops (T .events) (machine T) f (tabulate (T .rows) f) (fold-mem (T .start) (v .start-in))
       (λ x a hx ha. fold-mem (targetOf T x a) (cells-rows T v _)) (omega (arith, tabulate-length (T .rows) f)) i g h)
 
   -- The line has a row, and no more than the table.
   pub line-some : 1 ≤ length (line T s)
   unfolding line
-  line-some = let m = numbering-starts (eventsOf unit T) (machine T) f in omega (arith, ap length (m .1))
+  line-some = let m = numbering-starts (T .events) (machine T) f in omega (arith, ap length (m .1))
 
   pub line-short : length (line T s) ≤ T .rows
   unfolding line numbering
@@ -137,7 +137,7 @@ module _ (T : Table) (v : Valid T) (s : List ℕ) (room : needed (T .rows) ≤ l
 
     line-same : line T t ≡ line T s
     unfolding line
-    line-same = ap (λ (g : ℕ → ℕ). numbering (eventsOf unit T) (machine T) g) (fun-ext folds-same)
+    line-same = ap (λ (g : ℕ → ℕ). numbering (T .events) (machine T) g) (fun-ext folds-same)
 
     pub first-there : (needed (T .rows) ≤ length t) × (getD t (queueAt (T .rows)) 0 ≡ foldIn t (T .rows) (T .start))
     first-there = (

@@ -5,22 +5,22 @@ use Prim.Native.Nat.{ℕ, _*_}
 use lib.Dec.{leb}
 use lib.ListN.{length}
 use Rattle.tables.specs.Lists.{tabulate, over}
-use Rattle.tables.specs.Table.{Table, markBytes, machine, eventsOf, unit}
+use Rattle.tables.specs.Table.{Table, markBytes, machine}
 use Rattle.tables.specs.Reduction.{numbering, number, renumbered}
 use Rattle.scratch.specs.Scratch.{foldIn, workable, queueAt, numbersAt}
 
 module _ (T : Table) (s : List ℕ) where
   -- The rows in the order of their new numbers.
   unfoldable pub line : List ℕ
-  line = numbering (eventsOf unit T) (machine T) (foldIn s (T .rows))
+  line = numbering (T .events) (machine T) (foldIn s (T .rows))
 
   -- The new number of the row into which each row folds.
   unfoldable pub numberCells : List ℕ
-  numberCells = tabulate (T .rows) (number (eventsOf unit T) (machine T) (foldIn s (T .rows)))
+  numberCells = tabulate (T .rows) (number (T .events) (machine T) (foldIn s (T .rows)))
 
   -- The table that is left.
   unfoldable pub left : Table
-  left = renumbered (eventsOf unit T) (machine T) (foldIn s (T .rows))
+  left = renumbered (T .events) (machine T) (foldIn s (T .rows))
 
   -- The line and the new numbers stand in scratch.
   unfoldable pub numbered : List ℕ

@@ -16,6 +16,10 @@ judged-append [] m = refl
 judged-append (Fine ∷ l) m = judged-append l m
 judged-append (Refused number place ∷ l) m = refl
 
+pub then-fine : (v : Verdict) → andThen v Fine ≡ v
+then-fine Fine = refl
+then-fine (Refused number place) = refl
+
 -- What the first row of checks says, and what follows of both.
 pub refused-first : (l m : List Verdict) (v : Verdict) (number place : ℕ) → v ≡ judged l → v ≡ Refused number place → Refused number place ≡ judged (l ++ m)
 refused-first l m v number place e r = sym (judged-append l m ∙ ap (λ (u : Verdict). andThen u (judged m)) (sym e ∙ r))

@@ -7,6 +7,7 @@ use lib.ListN.{length, getD}
 use Rattle.tables.specs.Table.{Table, Offset, offset, none, markBytes}
 use Rattle.tables.specs.Lists.{position, over}
 use Rattle.marks.specs.Marks.{spareSet}
+use Rattle.weights.specs.Weights.{spareBit}
 use Rattle.rules.specs.declared.Limits.{Limits}
 use Rattle.rules.specs.declared.Offset as Code
 use Rattle.rules.specs.declared.Offset.the-variants.{Number, None}
@@ -73,6 +74,10 @@ spareRule rows last = rule 6 (spareSet rows last) 0
 abbrev pub roomRule : ℕ → ℕ → Verdict
 roomRule needed given = rule 7 (ltb given needed) 0
 
+-- 16: "a mask bit at or above the event count is set".
+abbrev pub maskRule : ℕ → ℕ → Verdict
+maskRule mask events = rule 16 (spareBit mask events) 0
+
 -- Rules 1 to 4, of a table that is given.
 abbrev pub shapeChecks : Limits → Table → List Verdict
 shapeChecks L T = rowsRule L (T .rows) ∷ eventsRule L (T .events) ∷ lengthsRule T ∷ rowRule (T .rows) (T .start) ∷ []
@@ -84,6 +89,10 @@ contentChecks rows cells marks = cellsRule rows cells ∷ spareRule rows (getD m
 -- Rules 1 to 6.
 abbrev pub tableChecks : Limits → Table → List Verdict
 tableChecks L T = shapeChecks L T ++ contentChecks (T .rows) (T .cells) (T .marks)
+
+-- Rules 1 to 6, and 16 straight after 6.
+abbrev pub maskedChecks : Limits → ℕ → Table → List Verdict
+maskedChecks L mask T = tableChecks L T ++ (maskRule mask (T .events) ∷ [])
 
 -- A table as it is passed to a call.
 abbrev pub tableOf : ℕ → ℕ → ℕ → List ℕ → List ℕ → Table

@@ -1,8 +1,9 @@
 // The rules by which a given table is refused, in the order in which calls check them.
 ghost use mathlib.Core.Path.{_≡_};
 ghost use mathlib.Core.Bool.{false};
+ghost use mathlib.Core.List.{[], _∷_};
 ghost use Prim.Native.Nat.{_≤_};
-ghost use Rattle.rules.specs.Rules.{winch as winchLimits, judged, shapeChecks, contentChecks, tableChecks, tableOf, firstOutside, outside};
+ghost use Rattle.rules.specs.Rules.{winch as winchLimits, judged, maskRule, shapeChecks, contentChecks, tableChecks, maskedChecks, tableOf, firstOutside, outside};
 
 // What checks say: nothing is broken, or the number of the first rule that is, and its place.
 pub enum Verdict {
@@ -123,5 +124,33 @@ pub fn check_table(
     match check_shape(limits, rows, events, start, cells, marks) {
         Verdict::Refused(number, place) => Verdict::Refused(number, place),
         Verdict::Fine => check_contents(rows, cells, marks),
+    }
+}
+
+// Rule 16: the mask has no bit that belongs to no event.
+fn check_mask(mask: u32, events: usize) -> Verdict
+    ensures { λ r. ⌜ r ≡ judged (maskRule mask events ∷ []) ⌝ }
+{
+    if weights::spare_bit(mask, events) {
+        return Verdict::Refused(16, 0);
+    }
+    Verdict::Fine
+}
+
+// Rules 1 to 6, then 16: a table, and which of its events count.
+pub fn check_masked(
+    limits: Limits,
+    mask: u32,
+    rows: usize,
+    events: usize,
+    start: usize,
+    cells: &[u16],
+    marks: &[u8],
+) -> Verdict
+    ensures { λ r. ⌜ r ≡ judged (maskedChecks limits mask (tableOf rows events start (now (cells .entry)) (now (marks .entry)))) ⌝ }
+{
+    match check_table(limits, rows, events, start, cells, marks) {
+        Verdict::Refused(number, place) => Verdict::Refused(number, place),
+        Verdict::Fine => check_mask(mask, events),
     }
 }

@@ -4,4 +4,3 @@ pub mod RowStarts
 pub mod Pairs
 pub mod Works
 pub mod Soundness
-pub mod Weights

@@ -1,7 +1,7 @@
 -- The lent scratch: "rows × (rows − 1) / 2 + 4 × rows 16-bit cells", and what stands where in it.
 use mathlib.Core.Bool.{Bool, true, false, cond}
 use mathlib.Core.List.{List, [], _++_}
-use Prim.Native.Nat.{ℕ, zero, suc, _+_, _-_, _*_, _/_, _%_, _^_}
+use Prim.Native.Nat.{ℕ, zero, suc, _+_, _-_, _*_, _/_}
 use lib.Dec.{leb, ltb}
 use lib.ListN.{length, getD, take, drop, replicate}
 use Rattle.automata.specs.Runs.{Len, len, endless}
@@ -68,10 +68,6 @@ scratchCells rows = rows * (rows - 1) / 2 + 4 * rows
 abbrev pub lenCell : Len → ℕ
 lenCell (len L) = L
 lenCell endless = 65535
-
--- What an event adds to the length of a run: bit `a` of a mask of 32 bits. An event is below 32.
-abbrev pub weightBy : ℕ → ℕ → ℕ
-weightBy mask a = mask / 2 ^ (a % 32) % 2
 
 -- s with 0 in the cells from one place up to another, where there are so many.
 unfoldable pub cleared : List ℕ → ℕ → ℕ → List ℕ

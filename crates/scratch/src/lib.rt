@@ -1,9 +1,9 @@
-// What the searches of the reducer share: the targets and weights that they read, and the map of the lent scratch in which they work.
+// What the searches of the reducer share: the targets that they read, and the map of the lent scratch in which they work.
 ghost use mathlib.Core.Path.{_≡_};
 ghost use Prim.Native.Nat.{_+_, _*_};
-ghost use lib.ListN.{length, getD, set};
+ghost use lib.ListN.{getD, set};
 ghost use Rattle.rules.specs.Rules.{tableOf};
-ghost use Rattle.scratch.specs.Scratch.{triangle, startIn, pairFrom, leadsAt, queueAt, foldsAt, numbersAt, needed as cellsNeeded, weightBy, cleared, workable as isWorkable};
+ghost use Rattle.scratch.specs.Scratch.{triangle, startIn, pairFrom, leadsAt, queueAt, foldsAt, numbersAt, needed as cellsNeeded, cleared, workable as isWorkable};
 
 // How many cells the pairs of so many rows take; behind them stand the leads.
 pub fn pair_cells(rows: u16) -> usize
@@ -99,13 +99,6 @@ pub fn target(cells: &[u16], events: u16, row: u16, event: u16) -> u16
         cells,
         rules::wide(row) * rules::wide(events) + rules::wide(event),
     )
-}
-
-// What an event adds to the length of a run.
-pub fn weight(mask: u32, event: u16) -> u16
-    ensures { λ r. ⌜ r ≡ weightBy mask event ⌝ }
-{
-    ((mask >> (event % 32)) & 1) as u16
 }
 
 // The cells from one place up to another become 0, where there are so many.

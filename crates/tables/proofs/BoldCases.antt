@@ -7,7 +7,7 @@ use Prim.Native.Nat.{ℕ, zero, suc, _*_, _≤_, _<_}
 use native.Mathlib.Omega.{arith}
 use native.Mathlib.Decide.{decLe}
 use Rattle.automata.proofs.Tests.{last-or-less}
-use Rattle.tables.specs.Table.{Offset, offset, none, unit}
+use Rattle.tables.specs.Table.{Offset, offset, none, weightBy}
 use Rattle.tables.specs.Reduction.{Record, records}
 use Rattle.tables.proofs.Cases.{When, at, always, Case, Recorded, Holds, cases, All, Below, Computed, computed}
 use Rattle.tables.proofs.NoOffset.{reduced-none, records-none}
@@ -23,10 +23,10 @@ below-at c (suc n) b k h = elim (last-or-less k n h) [ inl e ↦ subst (λ (j : 
 
 -- From twice the rows on, an offset yields what none does.
 far : (c : Case) (k : ℕ) → 0 < c .given-table .rows → 2 * c .given-table .rows ≤ k → Holds c none → Holds c (offset k)
-far c k pos h n = (sym (reduced-none unit (c .given-table) k pos h) ∙ n .0, recorded (c .fates) (n .1), n .2)
+far c k pos h n = (sym (reduced-none (weightBy (c .mask)) (c .given-table) k pos h) ∙ n .0, recorded (c .fates) (n .1), n .2)
   where
-    recorded : (r : Option (List Record)) → Recorded r (records unit none (c .given-table)) → Recorded r (records unit (offset k) (c .given-table))
-    recorded (stated m) e = sym (records-none unit (c .given-table) k pos h) ∙ e
+    recorded : (r : Option (List Record)) → Recorded r (records (weightBy (c .mask)) none (c .given-table)) → Recorded r (records (weightBy (c .mask)) (offset k) (c .given-table))
+    recorded (stated m) e = sym (records-none (weightBy (c .mask)) (c .given-table) k pos h) ∙ e
     recorded unstated e = tt
 
 holds : (c : Case) (w : When) → Computed c w → (k : Offset) → Covers w k → Holds c k
@@ -41,6 +41,6 @@ all-hold : (l : List Case) → All (λ c. Computed c (c .when)) l → All (λ c.
 all-hold [] h = tt
 all-hold (c ∷ l) h = (holds c (c .when) (h .0), all-hold l (h .1))
 
--- Every bold case holds at every offset that it speaks of.
+-- Every bold case, and that of idle events, holds at every offset that it speaks of.
 pub bold-cases : All (λ c. (k : Offset) → Covers (c .when) k → Holds c k) cases
 bold-cases = all-hold cases computed

@@ -28,25 +28,25 @@ module _ (E : Events) (M : Machine) (k : Offset) (start : M .start < M .rows) (t
   unfolding fold kept
   fold-in q h = first-all (λ x. x < M .rows) (similar E M k q) q (kept E M k) h (sift-all (similar E M k) (λ x. x < M .rows) (order E M) [] (λ x m. absurd m) (λ x m. order-mem E M x m .0))
 
-  met-in : (i x : ℕ) → Mem x (met E M f i) → x < M .rows
+  met-in : (i x : ℕ) → Mem x (met (E .count) M f i) → x < M .rows
   unfolding met
   met-in zero x h = elim h [ inl e ↦ subst (λ (y : ℕ). y < M .rows) (sym e) (fold-in (M .start) start) | inr g ↦ absurd g ]
   met-in (suc i) x h = step (met-in i) x h
     where
-      step : ((x : ℕ) → Mem x (met E M f i) → x < M .rows) → (x : ℕ)
-          → Mem x (sift eqb (met E M f i) (tabulate (E .count) (λ a. f (M .target (getD (met E M f i) i (f (M .start))) a)))) → x < M .rows
-      step ih = sift-all eqb (λ y. y < M .rows) _ (met E M f i) ih (λ y g.
-          let t = tabulate-mem (E .count) (λ a. f (M .target (getD (met E M f i) i (f (M .start))) a)) y g in
+      step : ((x : ℕ) → Mem x (met (E .count) M f i) → x < M .rows) → (x : ℕ)
+          → Mem x (sift eqb (met (E .count) M f i) (tabulate (E .count) (λ a. f (M .target (getD (met (E .count) M f i) i (f (M .start))) a)))) → x < M .rows
+      step ih = sift-all eqb (λ y. y < M .rows) _ (met (E .count) M f i) ih (λ y g.
+          let t = tabulate-mem (E .count) (λ a. f (M .target (getD (met (E .count) M f i) i (f (M .start))) a)) y g in
           subst (λ (u : ℕ). u < M .rows) (sym (t .2)) (fold-in _ (targets _ (t .0))))
 
   -- There are no more new numbers than rows.
-  numbering-most : length (numbering E M f) ≤ M .rows
+  numbering-most : length (numbering (E .count) M f) ≤ M .rows
   unfolding numbering
-  numbering-most = few (numbering E M f) (M .rows) (numbering-distinct E M f) (met-in (M .rows))
+  numbering-most = few (numbering (E .count) M f) (M .rows) (numbering-distinct (E .count) M f) (met-in (M .rows))
 
-  number-most : (q : ℕ) → number E M f q ≤ M .rows
+  number-most : (q : ℕ) → number (E .count) M f q ≤ M .rows
   unfolding number
-  number-most q = omega (arith, position-le (eqb (f q)) (numbering E M f), numbering-most)
+  number-most q = omega (arith, position-le (eqb (f q)) (numbering (E .count) M f), numbering-most)
 
 -- The numbers of a fate.
 abbrev pub FateWithin : ℕ → Fate → Type 0

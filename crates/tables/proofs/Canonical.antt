@@ -126,8 +126,8 @@ module _ {E : Events} {M : Machine} (s : Sound E M) (z : Light E) where
   next-reach : (q a : ℕ) → Mem q zero-kept → a < E .count → Reach E M (M .target q a) 0
   next-reach q a h ha = less (omega arith) (F .kept-reach q h then event q a ha)
 
-  met-all : (i : ℕ) → M .rows ≤ i → met E M zero-fold i ≡ numbering E M zero-fold
-  met-all = met-rests E M zero-fold zero-kept (F .fold-kept (M .start) (stay (M .start))) (λ x a h ha. F .fold-kept (M .target x a) (next-reach x a h ha))
+  met-all : (i : ℕ) → M .rows ≤ i → met (E .count) M zero-fold i ≡ numbering (E .count) M zero-fold
+  met-all = met-rests (E .count) M zero-fold zero-kept (F .fold-kept (M .start) (stay (M .start))) (λ x a h ha. F .fold-kept (M .target x a) (next-reach x a h ha))
       (few zero-kept (M .rows) (F .distinct) (λ q h. kept-order s z 0 q h .0))
 
 -- ---- two machines that agree after all runs
@@ -173,29 +173,29 @@ module _ {E : Events} {M N : Machine} (s : Sound E M) (t : Sound E N) (z : Light
       pick (inr a) (inl b) = clash (eq-eqb x u (left-same (eqb-true y v b))) a
       pick (inr a) (inr b) = a ∙ sym b
 
-  met-twins : (i : ℕ) → Both Twin (met E M f i) (met E N g i)
+  met-twins : (i : ℕ) → Both Twin (met (E .count) M f i) (met (E .count) N g i)
   unfolding met
   met-twins zero = (twin-start, tt)
   met-twins (suc i) = step (met-twins i)
     where
-      step : Both Twin (met E M f i) (met E N g i) → Both Twin (met E M f (suc i)) (met E N g (suc i))
+      step : Both Twin (met (E .count) M f i) (met (E .count) N g i) → Both Twin (met (E .count) M f (suc i)) (met (E .count) N g (suc i))
       step b = both-sift Twin twin-one _ _ (both-tabulate Twin (E .count) _ _ (λ a ha.
-          twin-next _ _ a ha (both-read Twin (met E M f i) (met E N g i) i (f (M .start)) (g (N .start)) b twin-start))) (met E M f i) (met E N g i) b
+          twin-next _ _ a ha (both-read Twin (met (E .count) M f i) (met (E .count) N g i) i (f (M .start)) (g (N .start)) b twin-start))) (met (E .count) M f i) (met (E .count) N g i) b
 
-  twins : Both Twin (numbering E M f) (numbering E N g)
+  twins : Both Twin (numbering (E .count) M f) (numbering (E .count) N g)
   twins =
-      subst (λ (l : List ℕ). Both Twin l (numbering E N g)) (met-all s z (M .rows + N .rows) (omega arith))
-      (subst (λ (m : List ℕ). Both Twin (met E M f (M .rows + N .rows)) m) (met-all t z (M .rows + N .rows) (omega arith)) (met-twins (M .rows + N .rows)))
+      subst (λ (l : List ℕ). Both Twin l (numbering (E .count) N g)) (met-all s z (M .rows + N .rows) (omega arith))
+      (subst (λ (m : List ℕ). Both Twin (met (E .count) M f (M .rows + N .rows)) m) (met-all t z (M .rows + N .rows) (omega arith)) (met-twins (M .rows + N .rows)))
 
-  renumbered-same : 0 < E .count → renumbered E M f ≡ renumbered E N g
+  renumbered-same : 0 < E .count → renumbered (E .count) M f ≡ renumbered (E .count) N g
   unfolding renumbered number
   renumbered-same pos = λ i. record { rows = long i; events = E .count; start = 0; cells = cells i; marks = pack (marks i) }
     where
       l : List ℕ
-      l = numbering E M f
+      l = numbering (E .count) M f
 
       m : List ℕ
-      m = numbering E N g
+      m = numbering (E .count) N g
 
       long : length l ≡ length m
       long = both-length Twin l m twins
@@ -217,4 +217,4 @@ pub reduced-same : (weight : ℕ → ℕ) → ((a : ℕ) → weight a ≤ 1) →
 unfolding reduced
 reduced-same weight light T U v u e agree =
     renumbered-same (sound-of weight T T refl v) (sound-of weight T U e u) (record { at-most = light }) agree (v .some-event)
-    ∙ ap (λ (n : ℕ). let E : Events = record { count = n; weight = weight } in renumbered E (machine U) (fold E (machine U) (offset 0))) (sym e)
+    ∙ ap (λ (n : ℕ). let E : Events = record { count = n; weight = weight } in renumbered n (machine U) (fold E (machine U) (offset 0))) (sym e)

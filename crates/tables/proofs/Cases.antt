@@ -1,4 +1,4 @@
--- Document 01's "Tables to try": the ten bold cases as one table, and what computing the definitions says of them.
+-- Document 01's "Tables to try", the ten bold cases, and document 02's case of idle events (#104) as one table, and what computing the definitions says of them.
 use mathlib.Core.Path.{_≡_, refl}
 use mathlib.Core.List.{List, [], _∷_}
 use mathlib.Core.Option.{Option, some as stated, none as unstated}
@@ -7,7 +7,7 @@ use native.Mathlib.Omega.{arith}
 use Rattle.automata.specs.Runs.{Len, len, endless}
 use Rattle.automata.specs.Nearness.{every, rounds, near}
 use Rattle.tables.specs.Lengths.{least, distance, lead, reached, depth}
-use Rattle.tables.specs.Table.{Table, Offset, offset, none, machine, eventsOf, pack, digits, unit}
+use Rattle.tables.specs.Table.{Table, Offset, offset, none, machine, eventsOf, weightBy, pack, digits}
 use Rattle.tables.specs.Lists.{tabulate, filter, some, first, position, sift}
 use Rattle.tables.specs.Reduction.{Record, keptAs, foldedInto, unreached, similarBy, level, levels, order, similar, kept, fold, met, numbering, number, renumbered, fateOf, reduced, records}
 
@@ -24,6 +24,8 @@ pub record Apart : Type 0 where
 
 pub record Case : Type 0 where
   pub given-table : Table
+  -- Which of its events count.
+  pub mask : ℕ
   pub when : When
   pub new-table : Table
   -- Where document 01 gives them.
@@ -36,16 +38,16 @@ Recorded unstated l = Unit {0}
 Recorded (stated m) l = l ≡ m
 
 -- The distances are those that are stated.
-abbrev pub Measured : Table → List Apart → Type 0
-Measured T [] = Unit {0}
-Measured T (x ∷ l) = (distance (eventsOf unit T) (machine T) (x .row) (x .other) ≡ x .by) × Measured T l
+abbrev pub Measured : ℕ → Table → List Apart → Type 0
+Measured mask T [] = Unit {0}
+Measured mask T (x ∷ l) = (distance (eventsOf (weightBy mask) T) (machine T) (x .row) (x .other) ≡ x .by) × Measured mask T l
 
 -- The case holds at the offset.
 abbrev pub Holds : Case → Offset → Type 0
 Holds c k =
-    (reduced unit k (c .given-table) ≡ c .new-table)
-    × Recorded (c .fates) (records unit k (c .given-table))
-    × Measured (c .given-table) (c .distances)
+    (reduced (weightBy (c .mask)) k (c .given-table) ≡ c .new-table)
+    × Recorded (c .fates) (records (weightBy (c .mask)) k (c .given-table))
+    × Measured (c .mask) (c .given-table) (c .distances)
 
 -- ---- the table
 
@@ -74,36 +76,49 @@ E = line2 1 0 (0 ∷ 0 ∷ []) (0 ∷ [])
 abbrev F : Table
 F = line 2 (0 ∷ 0 ∷ []) (2 ∷ [])
 
--- One waiting row.
+-- One waiting row, and one ready row.
 abbrev waiting : Table
 waiting = line 1 (0 ∷ []) (0 ∷ [])
+
+abbrev ready : Table
+ready = line 1 (0 ∷ []) (1 ∷ [])
+
+-- Masks of one event and of two, all counted.
+abbrev one : ℕ
+one = 1
+
+abbrev both : ℕ
+both = 3
 
 abbrev pub cases : List Case
 cases =
     -- A0, A1, An
     record {
       given-table = A;
+      mask = one;
       when = at (offset 0);
       new-table = line 2 (1 ∷ 1 ∷ []) (1 ∷ []);
       fates = stated (record { depth = len 0; fate = keptAs 0 } ∷ record { depth = len 1; fate = foldedInto 2 } ∷ record { depth = endless; fate = keptAs 1 } ∷ []);
       distances = [];
     }
-    ∷ record { given-table = A; when = at (offset 1); new-table = waiting; fates = unstated; distances = [] }
-    ∷ record { given-table = A; when = at none; new-table = waiting; fates = unstated; distances = [] }
+    ∷ record { given-table = A; mask = one; when = at (offset 1); new-table = waiting; fates = unstated; distances = [] }
+    ∷ record { given-table = A; mask = one; when = at none; new-table = waiting; fates = unstated; distances = [] }
     -- B
     ∷ record {
       given-table = B;
+      mask = both;
       when = always;
       new-table = B;
       fates = stated (record { depth = endless; fate = keptAs 0 } ∷ record { depth = endless; fate = keptAs 1 } ∷ record { depth = endless; fate = keptAs 2 } ∷ []);
       distances = record { row = 1; other = 2; by = len 1 } ∷ [];
     }
     -- C1, C2
-    ∷ record { given-table = C; when = at (offset 1); new-table = line 3 (1 ∷ 2 ∷ 2 ∷ []) (2 ∷ []); fates = unstated; distances = [] }
-    ∷ record { given-table = C; when = at (offset 2); new-table = waiting; fates = unstated; distances = [] }
+    ∷ record { given-table = C; mask = one; when = at (offset 1); new-table = line 3 (1 ∷ 2 ∷ 2 ∷ []) (2 ∷ []); fates = unstated; distances = [] }
+    ∷ record { given-table = C; mask = one; when = at (offset 2); new-table = waiting; fates = unstated; distances = [] }
     -- D0, D1
     ∷ record {
       given-table = D;
+      mask = both;
       when = at (offset 0);
       new-table = line2 3 0 (1 ∷ 1 ∷ 2 ∷ 0 ∷ 1 ∷ 1 ∷ []) (4 ∷ []);
       fates = stated (record { depth = endless; fate = keptAs 1 } ∷ record { depth = endless; fate = keptAs 2 } ∷ record { depth = endless; fate = keptAs 0 } ∷ record { depth = len 0; fate = foldedInto 2 } ∷ []);
@@ -111,20 +126,24 @@ cases =
     }
     ∷ record {
       given-table = D;
+      mask = both;
       when = at (offset 1);
       new-table = line2 3 0 (1 ∷ 1 ∷ 0 ∷ 2 ∷ 1 ∷ 1 ∷ []) (1 ∷ []);
       fates = stated (record { depth = endless; fate = keptAs 1 } ∷ record { depth = endless; fate = keptAs 0 } ∷ record { depth = endless; fate = keptAs 2 } ∷ record { depth = len 0; fate = foldedInto 1 } ∷ []);
       distances = [];
     }
     -- E, F
-    ∷ record { given-table = E; when = always; new-table = E; fates = unstated; distances = [] }
+    ∷ record { given-table = E; mask = both; when = always; new-table = E; fates = unstated; distances = [] }
     ∷ record {
       given-table = F;
+      mask = one;
       when = always;
       new-table = waiting;
       fates = stated (record { depth = endless; fate = keptAs 0 } ∷ record { depth = len 0; fate = unreached } ∷ []);
       distances = [];
     }
+    -- "With none counted, A at offset 1 gives one ready row."
+    ∷ record { given-table = A; mask = 0; when = at (offset 1); new-table = ready; fates = unstated; distances = [] }
     ∷ []
 
 -- ---- what is computed
@@ -159,4 +178,6 @@ computed =
     -- E, F
     and (omega arith, (refl, tt, tt), (refl, tt, tt) and (refl, tt, tt) and tt)
     and (omega arith, (refl, refl, tt), (refl, refl, tt) and (refl, refl, tt) and (refl, refl, tt) and (refl, refl, tt) and tt)
+    -- A with none counted
+    and (refl, tt, tt)
     and tt

@@ -10,6 +10,7 @@ pub mod Reduced
 pub mod NoOffset
 pub mod Canonical
 pub mod Theorems
+pub mod Counted
 pub mod Fakes
 pub mod BoldCases
 pub mod Bounds

@@ -47,7 +47,7 @@ module _ (weight : ℕ → ℕ) (light : (a : ℕ) → weight a ≤ 1) (T : Tabl
   f = fold E M (offset k)
 
   abbrev rows : List ℕ
-  rows = numbering E M f
+  rows = numbering (E .count) M f
 
   abbrev T′ : Table
   T′ = reduced weight (offset k) T
@@ -66,7 +66,7 @@ module _ (weight : ℕ → ℕ) (light : (a : ℕ) → weight a ≤ 1) (T : Tabl
   start-kept : Mem (f (M .start)) (kept E M (offset k))
   start-kept = F .fold-kept (M .start) (stay (M .start))
 
-  next-kept : Closed E M f (kept E M (offset k))
+  next-kept : Closed (E .count) M f (kept E M (offset k))
   next-kept x a h ha = F .fold-kept (M .target x a) (less (omega arith) (F .kept-reach x h then event x a ha))
 
   kept-fits : length (kept E M (offset k)) ≤ M .rows
@@ -74,28 +74,28 @@ module _ (weight : ℕ → ℕ) (light : (a : ℕ) → weight a ≤ 1) (T : Tabl
 
   -- Every kept row is met, so the new row count is the number of kept rows.
   pub kept-in : (q : ℕ) → Mem q (kept E M (offset k)) → Mem q rows
-  kept-in = kept-numbered E M f (kept E M (offset k)) start-kept next-kept kept-fits (kept-met F)
+  kept-in = kept-numbered (E .count) M f (kept E M (offset k)) start-kept next-kept kept-fits weight (kept-met F)
 
   pub count-kept : T′ .rows ≡ length (kept E M (offset k))
   unfolding reduced renumbered
-  count-kept = numbering-length E M f (kept E M (offset k)) start-kept next-kept kept-fits (kept-met F) (F .distinct)
+  count-kept = numbering-length (E .count) M f (kept E M (offset k)) start-kept next-kept kept-fits weight (kept-met F) (F .distinct)
 
-  closed : Closed E M f rows
-  closed = numbering-closed E M f (kept E M (offset k)) start-kept next-kept kept-fits
+  closed : Closed (E .count) M f rows
+  closed = numbering-closed (E .count) M f (kept E M (offset k)) start-kept next-kept kept-fits
 
   -- ---- the new cells and marks
 
   some-row : 0 < length rows
-  some-row = omega (arith, ap length (numbering-starts E M f .1))
+  some-row = omega (arith, ap length (numbering-starts (E .count) M f .1))
 
-  cell-at : (c : ℕ) → c < length rows * T .events → getD (T′ .cells) c 0 ≡ number E M f (M .target (getD rows (c / T .events) 0) (c % T .events))
+  cell-at : (c : ℕ) → c < length rows * T .events → getD (T′ .cells) c 0 ≡ number (E .count) M f (M .target (getD rows (c / T .events) 0) (c % T .events))
   unfolding reduced renumbered
   cell-at c h = tabulate-at (length rows * T .events) _ c 0 h
 
   target-mem : (i a : ℕ) → i < length rows → a < T .events → Mem (f (M .target (getD rows i 0) a)) rows
   target-mem i a hi ha = closed (getD rows i 0) a (at-mem rows i 0 hi) ha
 
-  target-at : (i a : ℕ) → i < length rows → a < T .events → targetOf T′ i a ≡ number E M f (M .target (getD rows i 0) a)
+  target-at : (i a : ℕ) → i < length rows → a < T .events → targetOf T′ i a ≡ number (E .count) M f (M .target (getD rows i 0) a)
   unfolding reduced renumbered
   target-at i a hi ha = cell-at (i * T .events + a) (digits-lt hi ha) ∙ rw (digits-div i ha, digits-mod i ha)
 
@@ -149,7 +149,7 @@ module _ (weight : ℕ → ℕ) (light : (a : ℕ) → weight a ≤ 1) (T : Tabl
 
   at-start : At (T′ .start) (f (M .start))
   unfolding reduced renumbered
-  at-start = record { inside = some-row; row = ap (λ (l : List ℕ). getD l 0 0) (numbering-starts E M f .1) }
+  at-start = record { inside = some-row; row = ap (λ (l : List ℕ). getD l 0 0) (numbering-starts (E .count) M f .1) }
 
   shows-folded : (w : List ℕ) → Run E w → shows (machine T′) w ≡ shows (folded M f) w
   shows-folded w hw =

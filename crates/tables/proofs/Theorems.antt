@@ -1,7 +1,7 @@
 -- The theorems, for every valid table, every offset, and none.
 use mathlib.Core.Path.{_≡_, refl, sym, ap, subst, _∙_}
 use mathlib.Core.Bool.{true, false}
-use mathlib.Core.List.{List, [], _∷_}
+use mathlib.Core.List.{List}
 use mathlib.Core.Logic.{_↔_}
 use Prim.Native.Nat.{ℕ, _+_, _*_, _≤_, _<_}
 use native.Mathlib.Omega.{arith}
@@ -13,7 +13,7 @@ use Rattle.tables.specs.Lengths.{distance, depth, reached}
 use Rattle.automata.proofs.Lists.{Mem}
 use Rattle.automata.proofs.Runs.{Reach, near-up}
 use Rattle.tables.proofs.Lengths.{Below, distance-is, finite-distance, depth-is, finite-depth, reached-is, unreached-is}
-use Rattle.tables.specs.Table.{Table, Offset, offset, none, Valid, Agrees, Fewest, machine, eventsOf, unit}
+use Rattle.tables.specs.Table.{Table, Offset, offset, none, Valid, Agrees, Fewest, machine, eventsOf}
 use Rattle.tables.specs.Lists.{some}
 use Rattle.tables.specs.Reduction.{kept, fold, numbering, renumbered, reduced, records}
 use Rattle.tables.proofs.Lists.{tabulate-length}
@@ -82,12 +82,12 @@ module _ (weight : ℕ → ℕ) (light : (a : ℕ) → weight a ≤ 1) (T : Tabl
   far-offset k h = (sym (at-none k h), sym (records-none weight T k (v .some-row) h))
 
   -- d. Every kept row is met, so the new row count is the number of kept rows; the new start is 0.
-  pub kept-met : (k : Offset) (q : ℕ) → Mem q (kept E M k) → Mem q (numbering E M (fold E M k))
+  pub kept-met : (k : Offset) (q : ℕ) → Mem q (kept E M k) → Mem q (numbering (E .count) M (fold E M k))
   kept-met (offset k) q h = kept-in weight light T v k q h
   kept-met none q h =
       let k : ℕ = 2 * T .rows in
       let far : 2 * T .rows ≤ k = omega arith in
-      subst (λ (f : ℕ → ℕ). Mem q (numbering E M f)) (sym (fold-none E M k (v .some-row) far))
+      subst (λ (f : ℕ → ℕ). Mem q (numbering (E .count) M f)) (sym (fold-none E M k (v .some-row) far))
       (kept-in weight light T v k q (subst (Mem q) (kept-none E M k (v .some-row) far) h))
 
   pub rows-kept : (k : Offset) → reduced weight k T .rows ≡ length (kept E M k)
@@ -141,45 +141,36 @@ pub one-reduction : (weight : ℕ → ℕ) → ((a : ℕ) → weight a ≤ 1) �
     → Agrees weight (offset 0) T U → reduced weight (offset 0) T ≡ reduced weight (offset 0) U
 one-reduction = reduced-same
 
--- ---- demands 2 and 3 as document 01 words them: every event adds one to a run's length
+-- ---- demands 2 and 3 in words: the length of a run takes in the weights of its events. With every event counted it is the number of events: Counted.antt.
 
 -- The table shows ready after the run.
 abbrev pub Ready : Table → List ℕ → Type 0
 Ready T w = shows (machine T) w ≡ 1
 
--- U shows ready after every run of L events or more exactly when T does.
-abbrev pub ReadyFrom : ℕ → Table → Table → Type 0
-ReadyFrom L T U = (w : List ℕ) → Run (eventsOf unit T) w → L ≤ length w → Ready U w ↔ Ready T w
+-- U shows ready after every run of length L or more exactly when T does.
+abbrev pub ReadyFrom : (ℕ → ℕ) → ℕ → Table → Table → Type 0
+ReadyFrom weight L T U = (w : List ℕ) → Run (eventsOf weight T) w → L ≤ size (eventsOf weight T) w → Ready U w ↔ Ready T w
 
-unit-size : (n : ℕ) (w : List ℕ) → size (record { count = n; weight = unit }) w ≡ length w
-unit-size n [] = refl
-unit-size n (a ∷ w) = omega (arith, unit-size n w)
+ready-from : (weight : ℕ → ℕ) (L : ℕ) (T U : Table) → AgreeFrom (eventsOf weight T) L (machine T) (machine U) → ReadyFrom weight L T U
+ready-from weight L T U n w hw hl = let e = n .same w hw hl in (λ r. e ∙ r, λ r. sym e ∙ r)
 
-pub unit-light : (a : ℕ) → unit a ≤ 1
-unit-light a = omega arith
-
-ready-from : (L : ℕ) (T U : Table) → AgreeFrom (eventsOf unit T) L (machine T) (machine U) → ReadyFrom L T U
-ready-from L T U n w hw hl =
-    let e = n .same w hw (omega (arith, unit-size (T .events) w)) in
-    (λ r. e ∙ r, λ r. sym e ∙ r)
-
-from-ready : (L : ℕ) (T U : Table) → ReadyFrom L T U → AgreeFrom (eventsOf unit T) L (machine T) (machine U)
-from-ready L T U r = record { same = λ w hw hl. pick w (r w hw (omega (arith, unit-size (T .events) w))) (ℕ-discrete (shows (machine T) w) 1) (ℕ-discrete (shows (machine U) w) 1) }
+from-ready : (weight : ℕ → ℕ) (L : ℕ) (T U : Table) → ReadyFrom weight L T U → AgreeFrom (eventsOf weight T) L (machine T) (machine U)
+from-ready weight L T U r = record { same = λ w hw hl. pick w (r w hw hl) (ℕ-discrete (shows (machine T) w) 1) (ℕ-discrete (shows (machine U) w) 1) }
   where
     pick : (w : List ℕ) → Ready U w ↔ Ready T w → Dec (Ready T w) → Dec (Ready U w) → shows (machine T) w ≡ shows (machine U) w
     pick w r (yes t) u = t ∙ sym (r .1 t)
     pick w r (no t) (yes u) = absurd (t (r .0 u))
     pick w r (no t) (no u) = omega (arith, mark-small (T .marks) (after (machine T) (T .start) w), mark-small (U .marks) (after (machine U) (U .start) w))
 
-module _ (T : Table) (v : Valid T) where
-  pub demand-2 : (k : ℕ) → ReadyFrom k T (reduced unit (offset k) T)
-  demand-2 k = ready-from k T (reduced unit (offset k) T) (agrees unit unit-light T v (offset k))
+module _ (weight : ℕ → ℕ) (light : (a : ℕ) → weight a ≤ 1) (T : Table) (v : Valid T) where
+  pub demand-2 : (k : ℕ) → ReadyFrom weight k T (reduced weight (offset k) T)
+  demand-2 k = ready-from weight k T (reduced weight (offset k) T) (agrees weight light T v (offset k))
 
-  pub demand-2-none : ReadyFrom (2 * T .rows) T (reduced unit none T)
-  demand-2-none = ready-from (2 * T .rows) T (reduced unit none T) (agrees-none unit unit-light T v)
+  pub demand-2-none : ReadyFrom weight (2 * T .rows) T (reduced weight none T)
+  demand-2-none = ready-from weight (2 * T .rows) T (reduced weight none T) (agrees-none weight light T v)
 
-  pub demand-3 : (k : ℕ) (N : Table) → Valid N → N .events ≡ T .events → ReadyFrom k T N → reduced unit (offset k) T .rows ≤ N .rows
-  demand-3 k N n e r = fewest unit unit-light T v (offset k) N n e (from-ready k T N r)
+  pub demand-3 : (k : ℕ) (N : Table) → Valid N → N .events ≡ T .events → ReadyFrom weight k T N → reduced weight (offset k) T .rows ≤ N .rows
+  demand-3 k N n e r = fewest weight light T v (offset k) N n e (from-ready weight k T N r)
 
-  pub demand-3-none : (L : ℕ) (N : Table) → Valid N → N .events ≡ T .events → ReadyFrom L T N → reduced unit none T .rows ≤ N .rows
-  demand-3-none L N n e r = fewest unit unit-light T v none N n e (L, from-ready L T N r)
+  pub demand-3-none : (L : ℕ) (N : Table) → Valid N → N .events ≡ T .events → ReadyFrom weight L T N → reduced weight none T .rows ≤ N .rows
+  demand-3-none L N n e r = fewest weight light T v none N n e (L, from-ready weight L T N r)

@@ -71,34 +71,34 @@ module _ (E : Events) (M : Machine) where
     unfoldable pub fold : ℕ → ℕ
     fold q = first (similar q) q kept
 
-  -- The new numbers, where f gives the kept row into which a row folds.
-  module _ (f : ℕ → ℕ) where
-    -- The rows met from the start, breadth first and lower events first, once the first i of them have been gone through.
-    unfoldable pub met : ℕ → List ℕ
-    met zero = f (M .start) ∷ []
-    met (suc i) =
-        let l = met i in
-        sift eqb l (tabulate (E .count) (λ a. f (M .target (getD l i (f (M .start))) a)))
+-- The new numbers, of a machine over so many events, where f gives the kept row into which a row folds. Breadth-first order takes all events, counted or not.
+module _ (events : ℕ) (M : Machine) (f : ℕ → ℕ) where
+  -- The rows met from the start, breadth first and lower events first, once the first i of them have been gone through.
+  unfoldable pub met : ℕ → List ℕ
+  met zero = f (M .start) ∷ []
+  met (suc i) =
+      let l = met i in
+      sift eqb l (tabulate events (λ a. f (M .target (getD l i (f (M .start))) a)))
 
-    -- The kept rows in the order of their new numbers.
-    unfoldable pub numbering : List ℕ
-    numbering = met (M .rows)
+  -- The kept rows in the order of their new numbers.
+  unfoldable pub numbering : List ℕ
+  numbering = met (M .rows)
 
-    -- The new number of the row into which q folds.
-    unfoldable pub number : ℕ → ℕ
-    number q = place (f q) numbering
+  -- The new number of the row into which q folds.
+  unfoldable pub number : ℕ → ℕ
+  number q = place (f q) numbering
 
-    -- The kept rows with their own marks, each target replaced by the row into which it folds. The new start is 0.
-    unfoldable pub renumbered : Table
-    renumbered =
-        let l = numbering in
-        record {
-          rows = length l;
-          events = E .count;
-          start = 0;
-          cells = tabulate (length l * E .count) (λ c. number (M .target (getD l (c / E .count) 0) (c % E .count)));
-          marks = pack (map (M .mark) l);
-        }
+  -- The kept rows with their own marks, each target replaced by the row into which it folds. The new start is 0.
+  unfoldable pub renumbered : Table
+  renumbered =
+      let l = numbering in
+      record {
+        rows = length l;
+        events = events;
+        start = 0;
+        cells = tabulate (length l * events) (λ c. number (M .target (getD l (c / events) 0) (c % events)));
+        marks = pack (map (M .mark) l);
+      }
 
 -- What becomes of a row that is reached or not, and kept or not; i is its new number, p the row into which it folds.
 abbrev pub fateBy : Bool → Bool → ℕ → ℕ → Fate
@@ -108,11 +108,11 @@ fateBy true false i p = foldedInto p
 
 -- The fate of row q.
 unfoldable pub fateOf : Events → Machine → Offset → ℕ → Fate
-fateOf E M k q = fateBy (reached E M q) (some (eqb q) (kept E M k)) (number E M (fold E M k) q) (fold E M k q)
+fateOf E M k q = fateBy (reached E M q) (some (eqb q) (kept E M k)) (number (E .count) M (fold E M k) q) (fold E M k q)
 
 -- The reduced table.
 unfoldable pub reduced : (ℕ → ℕ) → Offset → Table → Table
-reduced weight k T = renumbered (eventsOf weight T) (machine T) (fold (eventsOf weight T) (machine T) k)
+reduced weight k T = renumbered (T .events) (machine T) (fold (eventsOf weight T) (machine T) k)
 
 -- The records of the given rows.
 unfoldable pub records : (ℕ → ℕ) → Offset → Table → List Record

@@ -50,9 +50,9 @@ machine T = record { rows = T .rows; start = T .start; target = targetOf T; mark
 abbrev pub eventsOf : (ℕ → ℕ) → Table → Events
 eventsOf weight T = record { count = T .events; weight = weight }
 
--- Every event adds one to a run's length.
-abbrev pub unit : ℕ → ℕ
-unit a = 1
+-- "A 32-bit mask now says which events count, bit e for event e": what an event adds to the length of a run. An event is below 32.
+abbrev pub weightBy : ℕ → ℕ → ℕ
+weightBy mask a = mask / 2 ^ (a % 32) % 2
 
 -- A table that breaks none of the rules 1 to 6.
 pub record Valid (T : Table) : Type 0 where
@@ -75,7 +75,7 @@ pub record Valid (T : Table) : Type 0 where
   pub bytes : (i : ℕ) → getD (T .marks) i 0 < 256
 
 -- Demand 2, of the given table T and another U over the same events: they agree after every run of the offset's length or more;
--- with no offset, there is some length such that they agree after every run of that length or more.
+-- with no offset, there is some length such that they agree after every run of that length or more. A length is that of the counted events.
 abbrev pub Agrees : (ℕ → ℕ) → Offset → Table → Table → Type 0
 Agrees weight (offset k) T U = AgreeFrom (eventsOf weight T) k (machine T) (machine U)
 Agrees weight none T U = (L : ℕ) × AgreeFrom (eventsOf weight T) L (machine T) (machine U)

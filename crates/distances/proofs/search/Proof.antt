@@ -3,7 +3,7 @@ use mathlib.Core.Path.{_∙_}
 use native.Mathlib.Omega.{arith}
 use borrow.Author.Tests.{not-true}
 use Rattle.rules.specs.Rules.{tableOf}
-use Rattle.scratch.proofs.Weights.{mask-light}
+use Rattle.tables.proofs.Counted.{mask-light}
 use Rattle.distances.specs.Distances.{distanceCells}
 use Rattle.distances.specs.Search.{eventsBy, machineBy}
 use Rattle.distances.proofs.Rising.{Rising, rising-start, rising-ready, rising-next, rising-early, rising-full}

@@ -8,34 +8,34 @@ use Rattle.offsets.proofs.write_sheet.Tie as tie
 cast-n : tie.Need-cast-n
 cast-n c =
     let a = c .before .before .before .before .before .before .before .before .before .before .before .args in
-    record { fits = omega (arith, fine-rows (tableOf (a .rows) (a .events) (a .start) (a .cells .now) (a .marks .now)) (λ i. omega (arith, c .before .before .before .before .before .before .before .before .before .shared-slice-known2 .given i)) (a .list .now) (a .scratch .now) (c .before .before .before .before .before .before .check .ensures) (c .before .before .before .before .enum-told .given .1)) }
+    record { fits = omega (arith, fine-rows (a .mask) (tableOf (a .rows) (a .events) (a .start) (a .cells .now) (a .marks .now)) (λ i. omega (arith, c .before .before .before .before .before .before .before .before .before .shared-slice-known2 .given i)) (a .list .now) (a .scratch .now) (c .before .before .before .before .before .before .check .ensures) (c .before .before .before .before .enum-told .given .1)) }
 
 fill-requires : tie.Need-fill-requires
 fill-requires c κs =
     let a = c .before .before .before .before .before .before .before .before .before .before .before .before .before .args in
-    omega (arith, fine-list (tableOf (a .rows) (a .events) (a .start) (a .cells .now) (a .marks .now)) (λ i. omega (arith, c .before .before .before .before .before .before .before .before .before .before .before .shared-slice-known2 .given i)) (a .list .now) (a .scratch .now) (c .before .before .before .before .before .before .before .before .check .ensures) (c .before .before .before .before .before .before .enum-told .given .1))
+    omega (arith, fine-list (a .mask) (tableOf (a .rows) (a .events) (a .start) (a .cells .now) (a .marks .now)) (λ i. omega (arith, c .before .before .before .before .before .before .before .before .before .before .before .shared-slice-known2 .given i)) (a .list .now) (a .scratch .now) (c .before .before .before .before .before .before .before .before .check .ensures) (c .before .before .before .before .before .before .enum-told .given .1))
 
-mul-t25 : tie.Need-mul-t25
-mul-t25 c =
+mul-t26 : tie.Need-mul-t26
+mul-t26 c =
     let a = c .before .before .before .before .before .before .before .before .before .before .before .before .before .before .before .before .before .before .before .before .before .args in
-    omega (arith, fine-rows (tableOf (a .rows) (a .events) (a .start) (a .cells .now) (a .marks .now)) (λ i. omega (arith, c .before .before .before .before .before .before .before .before .before .before .before .before .before .before .before .before .before .before .before .shared-slice-known2 .given i)) (a .list .now) (a .scratch .now) (c .before .before .before .before .before .before .before .before .before .before .before .before .before .before .before .before .check .ensures) (c .before .before .before .before .before .before .before .before .before .before .before .before .before .before .enum-told .given .1))
+    omega (arith, fine-rows (a .mask) (tableOf (a .rows) (a .events) (a .start) (a .cells .now) (a .marks .now)) (λ i. omega (arith, c .before .before .before .before .before .before .before .before .before .before .before .before .before .before .before .before .before .before .before .shared-slice-known2 .given i)) (a .list .now) (a .scratch .now) (c .before .before .before .before .before .before .before .before .before .before .before .before .before .before .before .before .check .ensures) (c .before .before .before .before .before .before .before .before .before .before .before .before .before .before .enum-told .given .1))
 
-add-t26 : tie.Need-add-t26
-add-t26 c =
+add-t27 : tie.Need-add-t27
+add-t27 c =
     let a = c .before .before .before .before .before .before .before .before .before .before .before .before .before .before .before .before .before .before .before .before .before .args in
-    omega (arith, fine-rows (tableOf (a .rows) (a .events) (a .start) (a .cells .now) (a .marks .now)) (λ i. omega (arith, c .before .before .before .before .before .before .before .before .before .before .before .before .before .before .before .before .before .before .before .shared-slice-known2 .given i)) (a .list .now) (a .scratch .now) (c .before .before .before .before .before .before .before .before .before .before .before .before .before .before .before .before .check .ensures) (c .before .before .before .before .before .before .before .before .before .before .before .before .before .before .enum-told .given .1))
+    omega (arith, fine-rows (a .mask) (tableOf (a .rows) (a .events) (a .start) (a .cells .now) (a .marks .now)) (λ i. omega (arith, c .before .before .before .before .before .before .before .before .before .before .before .before .before .before .before .before .before .before .before .shared-slice-known2 .given i)) (a .list .now) (a .scratch .now) (c .before .before .before .before .before .before .before .before .before .before .before .before .before .before .before .before .check .ensures) (c .before .before .before .before .before .before .before .before .before .before .before .before .before .before .enum-told .given .1))
 
 returns : tie.Need-returns
 returns c =
     let a = c .before .before .before .before .before .before .before .before .args in
-    promised-refused (tableOf (a .rows) (a .events) (a .start) (a .cells .now) (a .marks .now)) (λ i. omega (arith, c .before .before .before .before .before .before .shared-slice-known2 .given i)) (a .list .now) (a .scratch .now) (c .before .before .before .check .ensures) (c .before .number .given .0 .0) (c .before .number .given .0 .1 .0) (c .before .number .given .1)
+    promised-refused (a .mask) (tableOf (a .rows) (a .events) (a .start) (a .cells .now) (a .marks .now)) (λ i. omega (arith, c .before .before .before .before .before .before .shared-slice-known2 .given i)) (a .list .now) (a .scratch .now) (c .before .before .before .check .ensures) (c .before .number .given .0 .0) (c .before .number .given .0 .1 .0) (c .before .number .given .1)
 
 returns-2 : tie.Need-returns-2
 returns-2 c =
     let a = c .before .before .before .before .before .before .before .before .before .before .before .before .before .before .before .before .before .before .before .before .before .args in
     let f = c .before .before .before .before .before .before .before .before .before .before .before .before .find-lengths in
     let l = c .before .before .before .before .before .before .before .fill in
-    promised-fine (tableOf (a .rows) (a .events) (a .start) (a .cells .now) (a .marks .now)) (λ i. omega (arith, c .before .before .before .before .before .before .before .before .before .before .before .before .before .before .before .before .before .before .before .shared-slice-known2 .given i)) (a .list .now) (a .scratch .now) (c .before .before .before .before .before .before .before .before .before .before .before .before .before .before .before .before .check .ensures) (c .before .before .before .before .before .before .before .before .before .before .before .before .before .before .enum-told .given .1) (f .last .1 .1 .1 .1 .1 .1 .0) (l .last .1 .1 .0) (f .ensures .1) (l .ensures) (c .before .before .before .needed .ensures) (c .before .before .clear .ensures)
+    promised-fine (a .mask) (tableOf (a .rows) (a .events) (a .start) (a .cells .now) (a .marks .now)) (λ i. omega (arith, c .before .before .before .before .before .before .before .before .before .before .before .before .before .before .before .before .before .before .before .shared-slice-known2 .given i)) (a .list .now) (a .scratch .now) (c .before .before .before .before .before .before .before .before .before .before .before .before .before .before .before .before .check .ensures) (c .before .before .before .before .before .before .before .before .before .before .before .before .before .before .enum-told .given .1) (f .last .1 .1 .1 .1 .1 .1 .0) (l .last .1 .1 .0) (f .ensures .1) (l .ensures) (c .before .before .before .needed .ensures) (c .before .before .clear .ensures)
 
 pub write-sheet-spec : {M : Type 1} → statement M
 write-sheet-spec =
@@ -49,8 +49,8 @@ write-sheet-spec =
     fill-requires
     (λ c κs. search needs)
     (λ c κs. search needs)
-    mul-t25
-    add-t26
+    mul-t26
+    add-t27
     returns
     (λ c. search needs)
     (λ c. search needs)

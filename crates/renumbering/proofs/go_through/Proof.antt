@@ -4,7 +4,7 @@ use native.Mathlib.Omega.{arith}
 use borrow.Author.Needs.{needs}
 use lib.ListN.{length}
 use Rattle.tables.specs.Lists.{over}
-use Rattle.tables.specs.Table.{machine, eventsOf, unit}
+use Rattle.tables.specs.Table.{machine}
 use Rattle.tables.specs.Reduction.{met}
 use Rattle.rules.specs.Rules.{tableOf}
 use Rattle.scratch.specs.Scratch.{queueAt, foldIn}
@@ -14,7 +14,7 @@ use Rattle.renumbering.proofs.go_through.Statement.{statement}
 use Rattle.renumbering.proofs.go_through.Tie as tie
 
 abbrev Inv-loop : tie.InvT-loop
-Inv-loop rows events start cells marks scratch₀ at count₀ i₀ scratch count i = (i ≤ count) × (count ≤ rows) × (scratch ≡ over scratch₀ (queueAt rows) (met (eventsOf unit (tableOf rows events start cells marks)) (machine (tableOf rows events start cells marks)) (foldIn scratch₀ rows) i)) × (count ≡ length (met (eventsOf unit (tableOf rows events start cells marks)) (machine (tableOf rows events start cells marks)) (foldIn scratch₀ rows) i)) × (length scratch ≡ length scratch₀)
+Inv-loop rows events start cells marks scratch₀ at count₀ i₀ scratch count i = (i ≤ count) × (count ≤ rows) × (scratch ≡ over scratch₀ (queueAt rows) (met events (machine (tableOf rows events start cells marks)) (foldIn scratch₀ rows) i)) × (count ≡ length (met events (machine (tableOf rows events start cells marks)) (foldIn scratch₀ rows) i)) × (length scratch ≡ length scratch₀)
 
 abbrev μ-loop : tie.MeasureT-loop
 μ-loop rows events start cells marks scratch₀ at count₀ i₀ scratch count i = rows - i

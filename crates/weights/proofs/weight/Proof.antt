@@ -1,10 +1,9 @@
 use Prim.Native.Nat.{_/_, _%_, _^_}
 use native.Mathlib.Omega.{arith}
 use lib.Bits.{and-mask, and-le-r}
-use lib.Bits.{and-mask}
 use borrow.Author.Needs.{needs}
-use Rattle.scratch.proofs.weight.Statement.{statement}
-use Rattle.scratch.proofs.weight.Tie as tie
+use Rattle.weights.proofs.weight.Statement.{statement}
+use Rattle.weights.proofs.weight.Tie as tie
 
 cast-result-2 : tie.Need-cast-result-2
 cast-result-2 c = omega (arith, and-le-r (c .args .mask / 2 ^ (c .args .event % 32)) 1)
