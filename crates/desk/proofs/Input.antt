@@ -1,35 +1,27 @@
--- The offset in front of the image.
-use mathlib.Core.Path.{_≡_, ap, _∙_}
+-- The offset and the mask in front of the image.
+use mathlib.Core.Path.{_≡_, ap₂, _∙_}
 use mathlib.Core.List.{List, _++_}
 use Prim.Native.Nat.{ℕ, _-_, _≤_, _<_}
-use native.Mathlib.Omega.{arith}
-use borrow.Author.Tests.{lt-ltb, le-ltb}
-use lib.ListN.{length, take, drop, length-append, length-drop}
-use lib.Seq.{take-all, drop-append-le}
+use lib.ListN.{length, take, drop}
 use Rattle.tables.specs.Table.{Offset}
 use Rattle.text.specs.Text.{refusalLine}
-use Rattle.image_text.specs.ImageText.{imageText}
-use Rattle.image_text.proofs.Long.{long-image}
+use Rattle.image_text.specs.ImageText.{imageText, maskAt, maskedText}
+use Rattle.image_text.proofs.Front as front
 use Rattle.desk.specs.Printed.{offsetIn, reductionText, printed}
 
--- An input without one.
-pub short-text : (input : List ℕ) → length input < 2 → refusalLine 8 0 ≡ printed input
+-- An input without them.
+pub short-text : (input : List ℕ) → length input < 6 → refusalLine 8 0 ≡ printed input
 unfolding printed
-short-text input h = rw (lt-ltb (length input) 2 h)
+short-text input h = front.short-text 6 _ input h
 
 -- The rest of the input, as the code takes it.
-pub whole-text : (input : List ℕ) → 2 ≤ length input → {k : Offset} → k ≡ offsetIn input → imageText (reductionText k) (take (length input - 2) (drop 2 input)) ≡ printed input
+pub whole-text : (input : List ℕ) → 6 ≤ length input → {k : Offset} {mask : ℕ} → k ≡ offsetIn input → mask ≡ maskAt input 2
+    → imageText (maskedText mask (reductionText k mask)) (take (length input - 6) (drop 6 input)) ≡ printed input
 unfolding printed
-whole-text input h {k} e =
-    rw (le-ltb (length input) 2 h)
-    (ap (imageText (reductionText k)) (take-all (length input - 2) (drop 2 input) (omega (arith, length-drop 2 input))) ∙ ap (λ (j : Offset). imageText (reductionText j) (drop 2 input)) e)
+whole-text input h e m =
+    ap₂ (λ (j : Offset) (n : ℕ). imageText (maskedText n (reductionText j n)) (take (length input - 6) (drop 6 input))) e m ∙ front.whole-text 6 _ input h
 
--- What `reduce` prints for an input longer than any sound one does not depend on the bytes beyond the first 8,219.
-pub long-input : (input rest : List ℕ) → 8219 ≤ length input → printed (input ++ rest) ≡ printed input
+-- What `reduce` prints for an input longer than any sound one does not depend on the bytes beyond the first 8,223.
+pub long-input : (input rest : List ℕ) → 8223 ≤ length input → printed (input ++ rest) ≡ printed input
 unfolding printed
-long-input input rest long =
-    let size : 8217 ≤ length (drop 2 input) = omega (arith, length-drop 2 input) in
-    let two : 2 ≤ length (input ++ rest) = omega (arith, length-append input rest) in
-    let image : drop 2 (input ++ rest) ≡ drop 2 input ++ rest = drop-append-le 2 input rest (omega arith) in
-    rw (le-ltb (length (input ++ rest)) 2 two, le-ltb (length input) 2 (omega arith), image)
-    (long-image (reductionText (offsetIn (input ++ rest))) (reductionText (offsetIn input)) (drop 2 input) rest size)
+long-input input rest long = front.long-input 6 _ _ input rest long

@@ -7,7 +7,7 @@ ghost use lib.ListN.{length};
 ghost use Rattle.tables.specs.Table.{Valid, offset, none};
 ghost use Rattle.rules.specs.Rules.{tableOf, offsetOf};
 ghost use Rattle.text.specs.Text.{filled, Puts};
-ghost use Rattle.image_text.specs.ImageText.{imageText};
+ghost use Rattle.image_text.specs.ImageText.{imageText, maskedText};
 ghost use Rattle.desk.specs.Printed.{reductionText, printed};
 ghost use Rattle.listing.specs.Listing.{blank as blankRecord};
 use image_reader::Read;
@@ -35,9 +35,10 @@ fn blank() -> records::Record
     }
 }
 
-// Writes the listing of the reduction of a valid table of at most 128 rows.
+// Writes the listing of the reduction of a valid table of at most 128 rows, or the refusal of its mask.
 fn write_reduction(
     offset: Offset,
+    mask: u32,
     rows: usize,
     events: usize,
     start: usize,
@@ -46,13 +47,14 @@ fn write_reduction(
     out: &mut [u8],
 ) -> usize
     requires { ⌜ Valid (tableOf rows events start (now cells) (now marks)) × (rows ≤ 128) ⌝ }
-    ensures { λ r. ⌜ Puts (now (out .entry)) 0 (reductionText (offsetOf offset) (tableOf rows events start (now (cells .entry)) (now (marks .entry)))) (now (out .exit)) r ⌝ }
+    ensures { λ r. ⌜ Puts (now (out .entry)) 0 (maskedText mask (reductionText (offsetOf offset) mask) (tableOf rows events start (now (cells .entry)) (now (marks .entry)))) (now (out .exit)) r ⌝ }
 {
     let mut newcells = [0u16; 4096];
     let mut newmarks = [0u8; 16];
     let mut scratch = [0u16; 8640];
     let done = reducer::reduce_recorded(
         offset,
+        mask,
         rows,
         events,
         start,
@@ -72,6 +74,7 @@ fn write_reduction(
             0,
             left as u16,
             events as u16,
+            weights::counted(mask),
             &newcells,
             &newmarks,
             rows as u16,
@@ -81,8 +84,8 @@ fn write_reduction(
 }
 
 // Writes the text for an image.
-fn write_image_text(offset: Offset, image: &[u8], out: &mut [u8]) -> usize
-    ensures { λ r. ⌜ Puts (now (out .entry)) 0 (imageText (reductionText (offsetOf offset)) (now (image .entry))) (now (out .exit)) r ⌝ }
+fn write_image_text(offset: Offset, mask: u32, image: &[u8], out: &mut [u8]) -> usize
+    ensures { λ r. ⌜ Puts (now (out .entry)) 0 (imageText (maskedText mask (reductionText (offsetOf offset) mask)) (now (image .entry))) (now (out .exit)) r ⌝ }
 {
     let mut cells = [0u16; 4096];
     let mut marks = [0u8; 16];
@@ -93,6 +96,7 @@ fn write_image_text(offset: Offset, image: &[u8], out: &mut [u8]) -> usize
             let bytes = marks::mark_bytes(rows);
             write_reduction(
                 offset,
+                mask,
                 rows,
                 events,
                 start,
@@ -110,9 +114,10 @@ pub fn write_text(input: &[u8], out: &mut [u8]) -> usize
         (now (out .exit) ≡ filled room t)
         × (r ≡ min (length t) (length room))) ⌝ }
 {
-    if input.len() < 2 {
+    if input.len() < 6 {
         return text::put_refusal(out, 0, 8, 0);
     }
     let offset = offset_of(input[0], input[1]);
-    write_image_text(offset, &input[2..], out)
+    let mask = image_text::mask_of(input[2], input[3], input[4], input[5]);
+    write_image_text(offset, mask, &input[6..], out)
 }

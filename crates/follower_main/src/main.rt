@@ -1,7 +1,8 @@
-// A follower over more events than its count holds, and the refusals of an event: 11, 5 and 4. Lines are put into one
-// buffer, each function from a place on.
+// A follower over more events than its count holds, over runs with events that do not count, and the refusals of an event:
+// 5, 11, 4 and 16. Lines are put into one buffer, each function from a place on.
 use follower::Begun;
 use follower::Follower;
+use follower::Outcome;
 use follower::Shown;
 use rules::Offset;
 use rules::Verdict;
@@ -61,7 +62,7 @@ fn put_some(out: &mut [u8], at: usize, n: usize, f: Follower) -> usize {
 }
 
 fn moved(f: Follower) -> Follower {
-    let s = follower::stepped(f, 2, 1, 0, &[1, 0], &[2], 0);
+    let s = follower::stepped(f, 1, 2, 1, 0, &[1, 0], &[2], 0);
     s.to
 }
 
@@ -88,14 +89,22 @@ fn put_state(out: &mut [u8], at: usize, f: Follower) -> usize {
     let mut next = put_text(out, at, b"row ");
     next = put_cell(out, next, f.row);
     next = put_text(out, next, b" count ");
-    next = put_cell(out, next, f.count);
-    put_byte(out, next, b'\n')
+    put_cell(out, next, f.count)
+}
+
+fn put_outcome(out: &mut [u8], at: usize, s: Outcome) -> usize {
+    let v = s.verdict;
+    let told = put_verdict(out, at, v);
+    let f = s.to;
+    let stated = put_state(out, told, f);
+    put_byte(out, stated, b'\n')
 }
 
 // One event on three rows of two events, of which the targets of row 1 are no rows.
-fn one_event(out: &mut [u8], at: usize, row: u16, event: usize) -> usize {
+fn one_event(out: &mut [u8], at: usize, mask: u32, row: u16, event: usize) -> usize {
     let s = follower::stepped(
         Follower { row, count: 0 },
+        mask,
         3,
         2,
         0,
@@ -103,10 +112,89 @@ fn one_event(out: &mut [u8], at: usize, row: u16, event: usize) -> usize {
         &[0],
         event,
     );
-    let v = s.verdict;
-    let told = put_verdict(out, at, v);
-    let f = s.to;
-    put_state(out, told, f)
+    put_outcome(out, at, s)
+}
+
+// Both events counted: one is taken, the others are refused.
+fn all_counted(out: &mut [u8], at: usize) -> usize {
+    let taken = one_event(out, at, 3, 0, 1);
+    let five = one_event(out, taken, 3, 1, 0);
+    let beside = one_event(out, five, 3, 1, 1);
+    let eleven = one_event(out, beside, 3, 2, 2);
+    one_event(out, eleven, 3, 3, 2)
+}
+
+// Three rows in a ring: event 0 leads to the next row, event 1 to the one before; row 1 is ready.
+fn in_ring(k: Offset, f: Follower) -> Shown {
+    follower::answer(k, f, 3, 2, 0, &[1, 2, 2, 0, 0, 1], &[2])
+}
+
+fn moved_in_ring(mask: u32, f: Follower, event: usize) -> Follower {
+    let s = follower::stepped(f, mask, 3, 2, 0, &[1, 2, 2, 0, 0, 1], &[2], event);
+    s.to
+}
+
+// What it answers at the offsets 0, 1 and 2 and at none.
+fn put_answers(out: &mut [u8], at: usize, f: Follower) -> usize {
+    let mut next = put_shown(out, at, in_ring(Offset::Number(0), f));
+    next = put_shown(out, next, in_ring(Offset::Number(1), f));
+    next = put_shown(out, next, in_ring(Offset::Number(2), f));
+    next = put_shown(out, next, in_ring(Offset::None, f));
+    put_byte(out, next, b'\n')
+}
+
+// The follower after an event.
+fn put_in_ring(out: &mut [u8], at: usize, event: usize, f: Follower) -> usize {
+    let mut next = put_text(out, at, b"event ");
+    next = put_number(out, next, event);
+    next = put_byte(out, next, b' ');
+    next = put_state(out, next, f);
+    put_answers(out, next, f)
+}
+
+fn ring_run(out: &mut [u8], at: usize, mask: u32, events: &[usize]) -> usize {
+    let mut next = at;
+    let mut f = Follower { row: 0, count: 0 };
+    let mut i = 0;
+    while i < events.len() {
+        let event = events[i];
+        f = moved_in_ring(mask, f, event);
+        next = put_in_ring(out, next, event, f);
+        i += 1;
+    }
+    next
+}
+
+// Event 0 counted, event 1 counted, none counted: each event moves the follower.
+fn some_counted(out: &mut [u8], at: usize) -> usize {
+    let first = ring_run(out, at, 1, &[1, 0, 1, 1, 0, 0, 1]);
+    let second = ring_run(out, first, 2, &[0, 1, 1]);
+    ring_run(out, second, 0, &[0, 1, 0])
+}
+
+// The last of 32 events counted, on a table of one row.
+fn last_counted(out: &mut [u8], at: usize, event: usize) -> usize {
+    let cells = [0u16; 32];
+    let s = follower::stepped(
+        Follower { row: 0, count: 0 },
+        2147483648,
+        1,
+        32,
+        0,
+        &cells,
+        &[0],
+        event,
+    );
+    put_outcome(out, at, s)
+}
+
+// A bit that belongs to no event: the lowest, the highest; then where 4, 11 and 5 are broken too.
+fn spare_bits(out: &mut [u8], at: usize) -> usize {
+    let lowest = one_event(out, at, 4, 0, 1);
+    let highest = one_event(out, lowest, 2147483648, 0, 1);
+    let four = one_event(out, highest, 4, 3, 2);
+    let eleven = one_event(out, four, 4, 2, 2);
+    one_event(out, eleven, 4, 1, 0)
 }
 
 fn run(out: &mut [u8]) -> usize {
@@ -119,10 +207,10 @@ fn run(out: &mut [u8]) -> usize {
 fn main() {
     let mut out = io::large_buffer();
     let mut n = run(&mut out);
-    n = one_event(&mut out, n, 0, 1);
-    n = one_event(&mut out, n, 1, 0);
-    n = one_event(&mut out, n, 1, 1);
-    n = one_event(&mut out, n, 2, 2);
-    n = one_event(&mut out, n, 3, 2);
+    n = all_counted(&mut out, n);
+    n = some_counted(&mut out, n);
+    n = last_counted(&mut out, n, 31);
+    n = last_counted(&mut out, n, 30);
+    n = spare_bits(&mut out, n);
     printing::print(&out, n);
 }

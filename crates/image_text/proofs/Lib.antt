@@ -2,3 +2,4 @@ pub mod Few
 pub mod Taken
 pub mod Long
 pub mod Short
+pub mod Front

@@ -13,7 +13,7 @@ use Rattle.records.specs.declared.Fate.{Fate}
 use Rattle.records.specs.declared.Fate.the-variants.{Kept, Folded, Unreached}
 use Rattle.text.specs.Text.{text}
 use Rattle.listing.specs.Listing.{targetWord, markWords, rowLine, depthWords, fateWords, recordLine, blank, listing}
-use Rattle.text.proofs.Short.{Small, number-short, joined-short, pair-short}
+use Rattle.text.proofs.Short.{Small, number-short, joined-short, head-short}
 
 mark-short : (mark : ℕ) → length (markWords mark) ≤ 7
 unfolding markWords
@@ -59,11 +59,11 @@ record-short row r h f d = simp length-append (omega (arith, number-short row h,
 
 -- ---- the listing
 
-pub listing-short : (rows events : ℕ) (cells marks : List ℕ) (given : ℕ) (records : List Record) → Small rows → Small events → Small given → ((i : ℕ) → Small (getD cells i 0))
+pub listing-short : (rows events counted : ℕ) (cells marks : List ℕ) (given : ℕ) (records : List Record) → Small rows → Small events → Small counted → Small given → ((i : ℕ) → Small (getD cells i 0))
     → ((q : ℕ) → q < given → SmallFate (getD records q blank .fate) × SmallDepth (getD records q blank .depth))
-    → length (listing rows events cells marks given records) ≤ 30 + rows * (12 + events * 6) + given * 33
+    → length (listing rows events counted cells marks given records) ≤ 36 + rows * (12 + events * 6) + given * 33
 unfolding listing
-listing-short rows events cells marks given records hr he hg small each =
+listing-short rows events counted cells marks given records hr he hc hg small each =
     let lines = joined-short rows (12 + events * 6) (rowLine events cells marks) (λ q l. row-short events cells marks q (omega arith) small) in
     let told = joined-short given 33 (λ q. recordLine q (getD records q blank)) (λ q l. record-short q (getD records q blank) (omega arith) (each q l .0) (each q l .1)) in
-    simp length-append (omega (arith, pair-short rows events hr he, number-short given hg, lines, told))
+    simp length-append (omega (arith, head-short (text "table ") rows events counted hr he hc, number-short given hg, lines, told))

@@ -10,7 +10,7 @@ use Rattle.records.specs.declared.Depth.{Depth}
 use Rattle.records.specs.declared.Depth.the-variants.{Number, Endless}
 use Rattle.records.specs.declared.Fate.{Fate}
 use Rattle.records.specs.declared.Fate.the-variants.{Kept, Folded, Unreached}
-use Rattle.text.specs.Text.{text, decimal, joined, pairLine}
+use Rattle.text.specs.Text.{text, decimal, joined, headLine}
 
 -- The target of a row and an event, after a space.
 unfoldable pub targetWord : ℕ → List ℕ → ℕ → ℕ → List ℕ
@@ -43,10 +43,10 @@ recordLine row r = decimal row ++ fateWords (r .fate) (r .depth)
 abbrev pub blank : Record
 blank = record { depth = Number 0; fate = Unreached }
 
--- "The first line gives new rows and events; then each new row's number, targets and mark; then the count of given rows, and each one's number, fate and depth."
-unfoldable pub listing : ℕ → ℕ → List ℕ → List ℕ → ℕ → List Record → List ℕ
-listing rows events cells marks given records =
-    text "table " ++ pairLine rows events
+-- "The first line gives new rows and events", and "ends with how many events count"; "then each new row's number, targets and mark; then the count of given rows, and each one's number, fate and depth."
+unfoldable pub listing : ℕ → ℕ → ℕ → List ℕ → List ℕ → ℕ → List Record → List ℕ
+listing rows events counted cells marks given records =
+    headLine (text "table ") rows events counted
     ++ joined rows (rowLine events cells marks)
     ++ text "folds " ++ decimal given ++ text "\n"
     ++ joined given (λ row. recordLine row (getD records row blank))

@@ -2,23 +2,15 @@
 ghost use mathlib.Core.Path.{_≡_};
 ghost use mathlib.Core.List.{_++_};
 ghost use lib.ListN.{getD};
-ghost use Rattle.text.specs.Text.{text, decimal, joined, pairLine, Puts};
+ghost use Rattle.text.specs.Text.{decimal, joined, Puts};
 ghost use Rattle.listing.specs.Listing.{targetWord, markWords, rowLine, depthWords, fateWords, recordLine, blank, listing};
 use records::Depth;
 use records::Fate;
 use records::Record;
 use text::put_byte;
 use text::put_cell;
-use text::put_pair;
+use text::put_head;
 use text::put_text;
-
-// Writes the first line.
-fn put_head(out: &mut [u8], at: usize, rows: u16, events: u16) -> usize
-    ensures { λ r. ⌜ Puts (now (out .entry)) at (text "table " ++ pairLine rows events) (now (out .exit)) r ⌝ }
-{
-    let worded = put_text(out, at, b"table ");
-    put_pair(out, worded, rows as usize, events as usize)
-}
 
 // Writes the targets of a row, each after a space.
 fn put_targets(out: &mut [u8], at: usize, row: u16, events: u16, cells: &[u16]) -> usize
@@ -137,23 +129,24 @@ fn put_records(out: &mut [u8], at: usize, given: u16, records: [Record; 1024]) -
     next
 }
 
-// Writes a reduced table and the records of the given rows.
+// Writes a reduced table, with how many of its events count, and the records of the given rows.
 pub fn put_listing(
     out: &mut [u8],
     at: usize,
     rows: u16,
     events: u16,
+    counted: usize,
     cells: &[u16],
     marks: &[u8],
     given: u16,
     records: [Record; 1024],
 ) -> usize
-    ensures { λ r. ⌜ Puts (now (out .entry)) at (listing rows events (now (cells .entry)) (now (marks .entry)) given records) (now (out .exit)) r ⌝ }
+    ensures { λ r. ⌜ Puts (now (out .entry)) at (listing rows events counted (now (cells .entry)) (now (marks .entry)) given records) (now (out .exit)) r ⌝ }
 {
-    let tabled = put_head(out, at, rows, events);
+    let tabled = put_head(out, at, b"table ", rows as usize, events as usize, counted);
     let listed = put_rows(out, tabled, rows, events, cells, marks);
     let worded = put_text(out, listed, b"folds ");
-    let counted = put_cell(out, worded, given);
-    let ended = put_byte(out, counted, b'\n');
+    let numbered = put_cell(out, worded, given);
+    let ended = put_byte(out, numbered, b'\n');
     put_records(out, ended, given, records)
 }

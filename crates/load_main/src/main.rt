@@ -6,6 +6,9 @@ use reduction::Answer;
 use rules::Offset;
 use text::put_refusal;
 
+// Every event counts.
+const ALL: u32 = 4294967295;
+
 // The next state of Marsaglia's xorshift, with shifts 13 left, 17 right, 5 left.
 fn next(state: u32) -> u32 {
     let a = state ^ (state << 13);
@@ -73,6 +76,7 @@ fn reduce(name: &[u8], offset: Offset, cells: &[u16], marks: &[u8]) {
         name,
         reduction::reduce_table(
             offset,
+            ALL,
             1024,
             32,
             0,
@@ -112,7 +116,7 @@ fn sheet(name: &[u8], cells: &[u16], marks: &[u8]) {
     let mut list = [0u16; 2049];
     let mut scratch = [0u16; 527872];
     let mut out = io::large_buffer();
-    let answer = offsets::write_sheet(1024, 32, 0, cells, marks, &mut list, &mut scratch);
+    let answer = offsets::write_sheet(ALL, 1024, 32, 0, cells, marks, &mut list, &mut scratch);
     let n = put_sheet(&mut out, name, answer, &list);
     printing::print(&out, n);
 }

@@ -1,4 +1,4 @@
-// `reduce`: reads an offset and an image from standard input, and prints the listing of the reduced table, or the refusal.
+// `reduce`: reads an offset, a mask of the events that count and an image from standard input, and prints the listing of the reduced table, or the refusal.
 use libc::STDIN_FILENO;
 
 // Input that fills the buffer is longer than any sound one, and is refused whatever follows. There is room for all of the text

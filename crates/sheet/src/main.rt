@@ -1,4 +1,4 @@
-// `sheet`: reads an image from standard input, and prints the row counts of its table at every offset, or the refusal.
+// `sheet`: reads a mask of the events that count and an image from standard input, and prints the row counts of its table at every offset, or the refusal.
 use libc::STDIN_FILENO;
 
 // Input that fills the buffer is longer than any sound one, and is refused whatever follows. There is room for all of the text

@@ -1,26 +1,19 @@
 // What the program `sheet` makes of the bytes that it reads: the text that it prints.
 ghost use mathlib.Core.Path.{_≡_};
-ghost use mathlib.Core.List.{_++_};
 ghost use Prim.Native.Nat.{_-_, _≤_, _<_, min};
 ghost use lib.ListN.{length, getD};
 ghost use Rattle.tables.specs.Table.{Valid};
 ghost use Rattle.rules.specs.Rules.{tableOf};
-ghost use Rattle.text.specs.Text.{text, joined, pairLine, filled, Puts};
+ghost use Rattle.text.specs.Text.{joined, pairLine, filled, Puts};
+ghost use Rattle.image_text.specs.ImageText.{imageText, maskedText};
 ghost use Rattle.sheet_desk.specs.Printed.{noneLine, sheetLines, sheetText, printed};
 use image_reader::Read;
 use offsets::Listed;
 use text::put_byte;
 use text::put_cell;
+use text::put_head;
 use text::put_pair;
 use text::put_text;
-
-// Writes the first line.
-fn put_head(out: &mut [u8], at: usize, rows: usize, events: usize) -> usize
-    ensures { λ r. ⌜ Puts (now (out .entry)) at (text "sheet " ++ pairLine rows events) (now (out .exit)) r ⌝ }
-{
-    let worded = put_text(out, at, b"sheet ");
-    put_pair(out, worded, rows, events)
-}
 
 // Writes the lines of the first offsets, by a list of their counts.
 fn put_entries(out: &mut [u8], at: usize, list: &[u16], count: usize) -> usize
@@ -46,18 +39,26 @@ fn put_none(out: &mut [u8], at: usize, count: u16) -> usize
 }
 
 // Writes all lines. The last offset's count is also that for none.
-fn put_sheet(out: &mut [u8], rows: usize, events: usize, list: &[u16], count: usize) -> usize
+fn put_sheet(
+    out: &mut [u8],
+    rows: usize,
+    events: usize,
+    counted: usize,
+    list: &[u16],
+    count: usize,
+) -> usize
     requires { ⌜ (0 < count) × (count ≤ length (now list)) ⌝ }
     ensures { λ r. ⌜ (let l = now (list .entry) in
-        Puts (now (out .entry)) 0 (sheetLines rows events count (λ k. getD l k 0) (getD l (count - 1) 0)) (now (out .exit)) r) ⌝ }
+        Puts (now (out .entry)) 0 (sheetLines rows events counted count (λ k. getD l k 0) (getD l (count - 1) 0)) (now (out .exit)) r) ⌝ }
 {
-    let headed = put_head(out, 0, rows, events);
+    let headed = put_head(out, 0, b"sheet ", rows, events, counted);
     let entered = put_entries(out, headed, list, count);
     put_none(out, entered, list[count - 1])
 }
 
-// Writes the text of a valid table of at most 128 rows.
+// Writes the text of a valid table of at most 128 rows, or the refusal of its mask.
 fn write_table_text(
+    mask: u32,
     rows: usize,
     events: usize,
     start: usize,
@@ -66,13 +67,53 @@ fn write_table_text(
     out: &mut [u8],
 ) -> usize
     requires { ⌜ Valid (tableOf rows events start (now cells) (now marks)) × (rows ≤ 128) ⌝ }
-    ensures { λ r. ⌜ Puts (now (out .entry)) 0 (sheetText (tableOf rows events start (now (cells .entry)) (now (marks .entry)))) (now (out .exit)) r ⌝ }
+    ensures { λ r. ⌜ Puts (now (out .entry)) 0 (maskedText mask (sheetText mask) (tableOf rows events start (now (cells .entry)) (now (marks .entry)))) (now (out .exit)) r ⌝ }
 {
     let mut list = [0u16; 257];
     let mut scratch = [0u16; 8640];
-    match offsets::write_sheet(rows, events, start, cells, marks, &mut list, &mut scratch) {
+    match offsets::write_sheet(
+        mask,
+        rows,
+        events,
+        start,
+        cells,
+        marks,
+        &mut list,
+        &mut scratch,
+    ) {
         Listed::Refused(number, place) => text::put_refusal(out, 0, number, place),
-        Listed::Entries(count) => put_sheet(out, rows, events, &list, count),
+        Listed::Entries(count) => put_sheet(
+            out,
+            rows,
+            events,
+            weights::counted(mask),
+            &list,
+            count,
+        ),
+    }
+}
+
+// Writes the text for an image.
+fn write_image_text(mask: u32, image: &[u8], out: &mut [u8]) -> usize
+    ensures { λ r. ⌜ Puts (now (out .entry)) 0 (imageText (maskedText mask (sheetText mask)) (now (image .entry))) (now (out .exit)) r ⌝ }
+{
+    let mut cells = [0u16; 4096];
+    let mut marks = [0u8; 16];
+    match image_reader::read_within(rules::winch(), 128, image, &mut cells, &mut marks) {
+        Read::Refused(number, place) => text::put_refusal(out, 0, number, place),
+        Read::Table(rows, events, start) => {
+            let count = rows * events;
+            let bytes = marks::mark_bytes(rows);
+            write_table_text(
+                mask,
+                rows,
+                events,
+                start,
+                &cells[..count],
+                &marks[..bytes],
+                out,
+            )
+        }
     }
 }
 
@@ -82,14 +123,9 @@ pub fn write_sheet_text(input: &[u8], out: &mut [u8]) -> usize
         (now (out .exit) ≡ filled room t)
         × (r ≡ min (length t) (length room))) ⌝ }
 {
-    let mut cells = [0u16; 4096];
-    let mut marks = [0u8; 16];
-    match image_reader::read_within(rules::winch(), 128, input, &mut cells, &mut marks) {
-        Read::Refused(number, place) => text::put_refusal(out, 0, number, place),
-        Read::Table(rows, events, start) => {
-            let count = rows * events;
-            let bytes = marks::mark_bytes(rows);
-            write_table_text(rows, events, start, &cells[..count], &marks[..bytes], out)
-        }
+    if input.len() < 4 {
+        return text::put_refusal(out, 0, 8, 0);
     }
+    let mask = image_text::mask_of(input[0], input[1], input[2], input[3]);
+    write_image_text(mask, &input[4..], out)
 }

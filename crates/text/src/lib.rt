@@ -1,6 +1,6 @@
 // Text as bytes in a lent buffer. Each function writes from a place on, as far as there is room, and answers the place after what it wrote.
 ghost use mathlib.Core.List.{[], _∷_};
-ghost use Rattle.text.specs.Text.{decimal, pairLine, refusalLine, Puts};
+ghost use Rattle.text.specs.Text.{decimal, pairLine, headLine, refusalLine, Puts};
 
 // Writes a byte.
 pub fn put_byte(out: &mut [u8], at: usize, byte: u8) -> usize
@@ -52,6 +52,23 @@ pub fn put_pair(out: &mut [u8], at: usize, first: usize, second: usize) -> usize
     let spaced = put_byte(out, numbered, b' ');
     let paired = put_number(out, spaced, second);
     put_byte(out, paired, b'\n')
+}
+
+// Writes the first line for a table: a word, the rows, the events, and how many events count.
+pub fn put_head(
+    out: &mut [u8],
+    at: usize,
+    word: &[u8],
+    rows: usize,
+    events: usize,
+    counted: usize,
+) -> usize
+    ensures { λ r. ⌜ Puts (now (out .entry)) at (headLine (now (word .entry)) rows events counted) (now (out .exit)) r ⌝ }
+{
+    let worded = put_text(out, at, word);
+    let rowed = put_number(out, worded, rows);
+    let spaced = put_byte(out, rowed, b' ');
+    put_pair(out, spaced, events, counted)
 }
 
 // Writes a refusal.

@@ -3,6 +3,7 @@ use mathlib.Core.Path.{sym}
 use lib.Seq.{length-take-le}
 use Rattle.rules.specs.Rules.{offsetOf}
 use Rattle.text.proofs.Buffer.{puts-as}
+use Rattle.image_text.specs.ImageText.{maskedText}
 use Rattle.image_text.proofs.Taken.{Taken, taken, refused-text, cells-fit, cells-part, marks-part, taken-valid, taken-text}
 use Rattle.desk.specs.Printed.{reductionText}
 use borrow.Author.Needs.{needs}
@@ -32,10 +33,10 @@ write-reduction-requires : tie.Need-write-reduction-requires
 write-reduction-requires c κs = taken-valid (read (c .before .before .before .before .before .before .before .before .before)) (c .before .before .before .before .before .rows .given .1) (c .before .before .before .mark-bytes .ensures)
 
 returns : tie.Need-returns
-returns c = puts-as (sym (refused-text (read (c .before .before .before .before .before .before .before .before .before)) (reductionText (offsetOf (c .before .before .before .before .before .before .before .before .before .before .before .before .before .before .before .args .offset))) (c .before .before .before .before .before .number .given .1))) (c .before .before .put-refusal .ensures)
+returns c = puts-as (sym (refused-text (read (c .before .before .before .before .before .before .before .before .before)) (maskedText (c .before .before .before .before .before .before .before .before .before .before .before .before .before .before .before .args .mask) (reductionText (offsetOf (c .before .before .before .before .before .before .before .before .before .before .before .before .before .before .before .args .offset)) (c .before .before .before .before .before .before .before .before .before .before .before .before .before .before .before .args .mask))) (c .before .before .before .before .before .number .given .1))) (c .before .before .put-refusal .ensures)
 
 returns-2 : tie.Need-returns-2
-returns-2 c = puts-as (sym (taken-text (read (c .before .before .before .before .before .before .before .before .before .before .before .before)) (c .before .before .before .before .before .before .before .before .rows .given .1) (c .before .before .before .before .before .before .mark-bytes .ensures) (reductionText (offsetOf (c .before .before .before .before .before .before .before .before .before .before .before .before .before .before .before .before .before .before .args .offset))))) (c .before .before .write-reduction .ensures)
+returns-2 c = puts-as (sym (taken-text (read (c .before .before .before .before .before .before .before .before .before .before .before .before)) (c .before .before .before .before .before .before .before .before .rows .given .1) (c .before .before .before .before .before .before .mark-bytes .ensures) (maskedText (c .before .before .before .before .before .before .before .before .before .before .before .before .before .before .before .before .before .before .args .mask) (reductionText (offsetOf (c .before .before .before .before .before .before .before .before .before .before .before .before .before .before .before .before .before .before .args .offset)) (c .before .before .before .before .before .before .before .before .before .before .before .before .before .before .before .before .before .before .args .mask))))) (c .before .before .write-reduction .ensures)
 
 pub write-image-text-spec : {M : Type 1} → statement M
 write-image-text-spec =

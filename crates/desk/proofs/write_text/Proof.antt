@@ -14,9 +14,9 @@ returns c =
 
 returns-2 : tie.Need-returns-2
 returns-2 c =
-    let a = c .before .before .before .before .before .before .before .before .before .before .before .args in
+    let a = c .before .before .before .before .before .before .before .before .before .before .before .before .before .before .before .before .args in
     let w = c .before .before .write-image-text .ensures in
-    let e = whole-text (a .input .now) (c .before .before .before .before .before .before .before .before .if1 .left) (c .before .before .before .before .before .offset-of .ensures) in
+    let e = whole-text (a .input .now) (c .before .before .before .before .before .before .before .before .before .before .before .before .before .if1 .left) (c .before .before .before .before .before .before .before .before .before .before .offset-of .ensures) (c .before .before .before .before .before .mask-of .ensures) in
     puts-all (puts-as (sym e) w)
 
 pub write-text-spec : {M : Type 1} → statement M
@@ -26,6 +26,11 @@ write-text-spec =
     (λ c κs. search needs)
     (λ c. search needs)
     returns
+    (λ c. search needs)
+    (λ c. search needs)
+    (λ c κs. search needs)
+    (λ c. search needs)
+    (λ c. search needs)
     (λ c. search needs)
     (λ c. search needs)
     (λ c κs. search needs)

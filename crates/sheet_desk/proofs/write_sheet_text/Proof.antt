@@ -1,40 +1,15 @@
-use native.Mathlib.Omega.{arith}
 use mathlib.Core.Path.{sym}
-use lib.Seq.{length-take-le}
 use Rattle.text.proofs.Buffer.{puts-as, puts-all}
-use Rattle.image_text.proofs.Taken.{Taken, taken, refused-text, cells-fit, cells-part, marks-part, taken-valid, taken-text}
-use Rattle.sheet_desk.specs.Printed.{sheetText}
+use Rattle.sheet_desk.proofs.Input.{short-text, whole-text}
 use borrow.Author.Needs.{needs}
 use Rattle.sheet_desk.proofs.write_sheet_text.Statement.{statement}
 use Rattle.sheet_desk.proofs.write_sheet_text.Tie as tie
 
--- What the reader left in the buffers.
-read : (c : tie.After-read-within) → Taken (c .before .before .before .before .before .before .args .input .now) (c .read-within .result) (c .read-within .last .1 .1 .1 .0) (c .read-within .last .1 .1 .1 .1 .0)
-read c = taken (λ i. omega (arith, c .before .before .before .before .before .shared-slice-known .given i)) (c .before .before .before .winch .ensures) (c .read-within .ensures)
-
-mul-count : tie.Need-mul-count
-mul-count c = record { fits = omega (arith, cells-fit (read (c .before .before .before .before .before)) (c .before .rows .given .1)) }
-
-array-share-prefix-cells : tie.Need-array-share-prefix-cells
-array-share-prefix-cells c = cells-part (read (c .before .before .before .before .before .before)) (c .before .before .rows .given .1)
-
-slice-aggregate-write-table-text : tie.Need-slice-aggregate-write-table-text
-slice-aggregate-write-table-text c = sym (length-take-le _ (c .before .before .before .before .before .before .before .read-within .last .1 .1 .1 .0) (cells-part (read (c .before .before .before .before .before .before .before)) (c .before .before .before .rows .given .1)))
-
-array-share-prefix-marks : tie.Need-array-share-prefix-marks
-array-share-prefix-marks c = marks-part (read (c .before .before .before .before .before .before .before)) (c .before .before .before .rows .given .1) (c .before .mark-bytes .ensures)
-
-slice-aggregate-write-table-text-2 : tie.Need-slice-aggregate-write-table-text-2
-slice-aggregate-write-table-text-2 c = sym (length-take-le _ (c .before .before .before .before .before .before .before .before .read-within .last .1 .1 .1 .1 .0) (marks-part (read (c .before .before .before .before .before .before .before .before)) (c .before .before .before .before .rows .given .1) (c .before .before .mark-bytes .ensures)))
-
-write-table-text-requires : tie.Need-write-table-text-requires
-write-table-text-requires c κs = taken-valid (read (c .before .before .before .before .before .before .before .before .before)) (c .before .before .before .before .before .rows .given .1) (c .before .before .before .mark-bytes .ensures)
-
 returns : tie.Need-returns
-returns c = puts-all (puts-as (sym (refused-text (read (c .before .before .before .before .before .before .before .before .before)) sheetText (c .before .before .before .before .before .number .given .1))) (c .before .before .put-refusal .ensures))
+returns c = puts-all (puts-as (sym (short-text (c .before .before .before .before .before .before .before .args .input .now) (c .before .before .before .before .if1 .taken))) (c .before .before .put-refusal .ensures))
 
 returns-2 : tie.Need-returns-2
-returns-2 c = puts-all (puts-as (sym (taken-text (read (c .before .before .before .before .before .before .before .before .before .before .before .before)) (c .before .before .before .before .before .before .before .before .rows .given .1) (c .before .before .before .before .before .before .mark-bytes .ensures) sheetText)) (c .before .before .write-table-text .ensures))
+returns-2 c = puts-all (puts-as (sym (whole-text (c .before .before .before .before .before .before .before .before .before .before .before .before .before .args .input .now) (c .before .before .before .before .before .before .before .before .before .before .if1 .left) (c .before .before .before .before .before .mask-of .ensures))) (c .before .before .write-image-text .ensures))
 
 pub write-sheet-text-spec : {M : Type 1} → statement M
 write-sheet-text-spec =
@@ -42,19 +17,15 @@ write-sheet-text-spec =
     (tie.spec
     (λ c κs. search needs)
     (λ c. search needs)
-    (λ c. search needs)
-    (λ c κs. search needs)
-    (λ c. search needs)
-    (λ c κs. search needs)
-    (λ c. search needs)
-    mul-count
-    (λ c κs. search needs)
-    array-share-prefix-cells
-    slice-aggregate-write-table-text
-    array-share-prefix-marks
-    slice-aggregate-write-table-text-2
-    write-table-text-requires
-    (λ c. search needs)
     returns
+    (λ c. search needs)
+    (λ c. search needs)
+    (λ c. search needs)
+    (λ c. search needs)
+    (λ c κs. search needs)
+    (λ c. search needs)
+    (λ c. search needs)
+    (λ c. search needs)
+    (λ c κs. search needs)
     (λ c. search needs)
     returns-2)
