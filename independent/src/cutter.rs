@@ -2,42 +2,60 @@
 //! found by trying all smaller tables. It uses nothing of rules.rs.
 //!
 //! Document 01: "Two tables over the same number of events agree after a run
-//! if these marks are equal; otherwise they differ after it. That they differ
-//! after finitely many runs only means that there is some length such that
-//! they agree after every run of that length or more." And: "the other table
-//! is any table as described above, with its own rows, targets, marks and
-//! start; its rows need not come from the given one."
+//! if these marks are equal; otherwise they differ after it." And: "the other
+//! table is any table as described above, with its own rows, targets, marks and
+//! start; its rows need not come from the given one." Request 104: "Run length ...
+//! take in counted events only", and '"Finitely many runs" becomes "only runs
+//! below some counted length", for the agreement and for the fewest rows alike.'
 //!
-//! Agreement at offset k is taken as: they agree after every run of length k
-//! or more. Agreement with no offset: they differ after finitely many runs
-//! only.
+//! All lengths here are counted ones. Agreement at offset k is taken as: they
+//! agree after every run of length k or more. Agreement with no offset: they
+//! differ after runs below some length only.
 //!
 //! # How agreement is decided
 //!
 //! Follow one run on both tables at once; the two present rows are a pair. Let
 //! EXACT(L) be the pairs on which runs of length exactly L end. EXACT(0) is the
-//! pair of the starts, and EXACT(L+1) is what the events make of EXACT(L). The
-//! tables agree after every run of length k or more if and only if no pair of
-//! EXACT(k), EXACT(k+1), ... has differing marks. The union of these sets is
-//! EXACT(k) closed under the events; call it FROM(k). So: walk k steps, close,
-//! look. This is [`agree_from`].
+//! pair of the starts and what idle events make of it; EXACT(L+1) is what the
+//! counted events make of EXACT(L), and idle events of that. The tables agree
+//! after every run of length k or more if and only if no pair of EXACT(k),
+//! EXACT(k+1), ... has differing marks. The union of these sets is EXACT(k)
+//! closed under all events; call it FROM(k). So: walk k steps, close, look. With
+//! no offset: a run with as many counted events as there are pairs, or more,
+//! passes some pair twice with a counted event between, and this part can be
+//! repeated. If the tables differ after such a run, they differ after runs of
+//! every length. So take the number of pairs for k. This is [`agree`].
 //!
-//! FROM(k+1) is what the events make of FROM(k), and it lies within FROM(k). As
-//! there are finitely many pairs, the sets stop shrinking at some LAST, and
-//! LAST lies in FROM(k) for every k. With no offset: if no pair of LAST has
-//! differing marks, the tables agree from the length on at which LAST was
-//! reached. If a pair of LAST has, it lies in FROM(k) for every k, so runs of
-//! every size end on it and the tables differ after infinitely many runs. (LAST
-//! is made of the reachable rounds of pairs and whatever can be reached from
-//! them.) This is [`agree_finally`].
+//! FROM(k+1) is what the counted events make of FROM(k), and idle events of that;
+//! it lies within FROM(k). As there are finitely many pairs, the sets stop
+//! shrinking at some LAST, and LAST lies in FROM(k) for every k. So no pair of
+//! LAST may differ, also with no offset: then the tables agree from the length on
+//! at which LAST was reached. (LAST is made of the reachable rounds of pairs with
+//! a counted event and whatever can be reached from them; if no event counts, it
+//! is empty.) This is [`agree_large`].
 
-use crate::table::{Offset, Table};
+use crate::table::{counted, Mask, Offset, Table};
 
-/// A set of pairs: row p of the given table with row q of the other one is
-/// number p × (other rows) + q.
+/// Row p of the given table with row q of the other one is pair number
+/// p × (other rows) + q.
 struct Pairs<'a> {
     given: &'a Table,
     other: &'a Table,
+}
+
+/// A set of pairs.
+struct Set {
+    list: Vec<usize>,
+    has: Vec<bool>,
+}
+
+impl Set {
+    fn add(&mut self, pair: usize) {
+        if !self.has[pair] {
+            self.has[pair] = true;
+            self.list.push(pair);
+        }
+    }
 }
 
 impl Pairs<'_> {
@@ -45,8 +63,8 @@ impl Pairs<'_> {
         self.given.rows * self.other.rows
     }
 
-    fn starts(&self) -> usize {
-        self.given.start * self.other.rows + self.other.start
+    fn none(&self) -> Set {
+        Set { list: Vec::new(), has: vec![false; self.count()] }
     }
 
     fn onward(&self, pair: usize, event: usize) -> usize {
@@ -58,115 +76,70 @@ impl Pairs<'_> {
         self.given.marks[pair / self.other.rows] != self.other.marks[pair % self.other.rows]
     }
 
-    /// What the events make of a set.
-    fn step(&self, set: &[bool]) -> Vec<bool> {
-        let mut next = vec![false; set.len()];
-        for pair in (0..set.len()).filter(|&pair| set[pair]) {
-            for event in 0..self.given.events {
-                next[self.onward(pair, event)] = true;
-            }
+    /// What those events make of a set.
+    fn step(&self, set: &Set, those: Mask) -> Set {
+        let mut next = self.none();
+        for event in (0..self.given.events).filter(|&event| counted(those, event) == 1) {
+            set.list.iter().for_each(|&pair| next.add(self.onward(pair, event)));
         }
         next
     }
 
-    /// The set and all that events can make of it.
-    fn close(&self, mut set: Vec<bool>) -> Vec<bool> {
-        let mut open: Vec<usize> = (0..set.len()).filter(|&pair| set[pair]).collect();
-        while let Some(pair) = open.pop() {
-            for event in 0..self.given.events {
-                let next = self.onward(pair, event);
-                if !set[next] {
-                    set[next] = true;
-                    open.push(next);
-                }
+    /// The set and all that those events can make of it.
+    fn close(&self, mut set: Set, those: Mask) -> Set {
+        let mut at = 0;
+        while at < set.list.len() {
+            for event in (0..self.given.events).filter(|&event| counted(those, event) == 1) {
+                set.add(self.onward(set.list[at], event));
             }
+            at += 1;
         }
         set
     }
 
-    fn only_starts(&self) -> Vec<bool> {
-        let mut set = vec![false; self.count()];
-        set[self.starts()] = true;
-        set
+    /// The pair of the starts and what those events can make of it.
+    fn closed_starts(&self, those: Mask) -> Set {
+        let mut set = self.none();
+        set.add(self.given.start * self.other.rows + self.other.start);
+        self.close(set, those)
     }
 
-    fn none_differs(&self, set: &[bool]) -> bool {
-        (0..set.len()).all(|pair| !set[pair] || !self.differs(pair))
+    /// From EXACT(L) to EXACT(L+1), and from FROM(k) to FROM(k+1).
+    fn count_one_more(&self, set: &Set, mask: Mask) -> Set {
+        self.close(self.step(set, mask), !mask)
     }
-}
 
-/// Do the tables agree after every run of length k or more?
-pub fn agree_from(given: &Table, other: &Table, k: usize) -> bool {
-    assert_eq!(given.events, other.events);
-    let pairs = Pairs { given, other };
-    let mut set = pairs.only_starts();
-    for _ in 0..k {
-        set = pairs.step(&set);
-    }
-    pairs.none_differs(&pairs.close(set))
-}
-
-/// Do the tables differ after finitely many runs only?
-pub fn agree_finally(given: &Table, other: &Table) -> bool {
-    assert_eq!(given.events, other.events);
-    let pairs = Pairs { given, other };
-    let mut set = pairs.close(pairs.only_starts());
-    loop {
-        let next = pairs.step(&set);
-        if next == set {
-            return pairs.none_differs(&set);
-        }
-        set = next;
+    fn none_differs(&self, set: &Set) -> bool {
+        set.list.iter().all(|&pair| !self.differs(pair))
     }
 }
 
 /// Agreement at an offset or with none.
-pub fn agree(given: &Table, other: &Table, offset: Offset) -> bool {
-    match offset {
-        Some(k) => agree_from(given, other, k),
-        None => agree_finally(given, other),
+pub fn agree(given: &Table, other: &Table, mask: Mask, offset: Offset) -> bool {
+    assert_eq!(given.events, other.events);
+    let pairs = Pairs { given, other };
+    let mut set = pairs.closed_starts(!mask);
+    for _ in 0..offset.unwrap_or(pairs.count()) {
+        set = pairs.count_one_more(&set, mask);
     }
+    pairs.none_differs(&pairs.close(set, Mask::MAX))
 }
 
 /// The same answer as [`agree`], fast enough for large tables and offsets.
-///
-/// Among the reachable pairs those are taken away, one after another, into
-/// which no line of a remaining pair leads, and each hands its longest length
-/// on. A pair taken away so is reached by runs up to that length and no longer.
-/// A pair that stays has a line into it from another that stays, so going
-/// backward one comes into a round of pairs that stay: it is reached by runs of
-/// every size. The tables agree from k on if and only if no differing pair
-/// stays and no differing pair taken away has a length of k or more.
-pub fn agree_large(given: &Table, other: &Table, offset: Offset) -> bool {
+pub fn agree_large(given: &Table, other: &Table, mask: Mask, offset: Offset) -> bool {
     assert_eq!(given.events, other.events);
     let pairs = Pairs { given, other };
-    let reached = pairs.close(pairs.only_starts());
-    let mut lines_into = vec![0usize; pairs.count()];
-    for pair in (0..pairs.count()).filter(|&pair| reached[pair]) {
-        for event in 0..given.events {
-            lines_into[pairs.onward(pair, event)] += 1;
+    let mut set = pairs.closed_starts(Mask::MAX);
+    let mut from = 0;
+    while offset.is_none_or(|k| from < k) {
+        let next = pairs.count_one_more(&set, mask);
+        if next.list.len() == set.list.len() {
+            break;
         }
+        set = next;
+        from += 1;
     }
-    let mut longest = vec![0usize; pairs.count()];
-    let mut away = vec![false; pairs.count()];
-    let mut open = Vec::new();
-    if lines_into[pairs.starts()] == 0 {
-        open.push(pairs.starts());
-    }
-    while let Some(pair) = open.pop() {
-        away[pair] = true;
-        for event in 0..given.events {
-            let next = pairs.onward(pair, event);
-            longest[next] = longest[next].max(longest[pair] + 1);
-            lines_into[next] -= 1;
-            if lines_into[next] == 0 {
-                open.push(next);
-            }
-        }
-    }
-    (0..pairs.count())
-        .filter(|&pair| reached[pair] && pairs.differs(pair))
-        .all(|pair| away[pair] && offset.is_none_or(|k| longest[pair] < k))
+    pairs.none_differs(&set)
 }
 
 /// All lists of targets, for tables begun at row 0, in which the rows are
@@ -232,14 +205,16 @@ impl Cutter {
     /// its own row count if no smaller table agrees.)
     ///
     /// For one form the sets FROM(0), FROM(1), ... LAST do not depend on the
-    /// marks, so they are made once; then all marks are tried. The first of
-    /// the sets without a differing pair tells from which length on that table
-    /// agrees. A set of pairs is kept as the bits of one number.
-    pub fn least(&self, given: &Table, offsets: &[Offset]) -> Vec<usize> {
+    /// marks, so all marks are tried on them at once: no pair of a set differs
+    /// under some marks if and only if each row of the other table stands in it
+    /// with ready rows only or with waiting ones only. The first such set tells
+    /// from which length on a table of that form agrees. A set of pairs is kept as
+    /// the bits of one number.
+    pub fn least(&self, given: &Table, mask: Mask, offsets: &[Offset]) -> Vec<usize> {
         assert_eq!(given.events, self.events);
         let mut least: Vec<usize> = vec![given.rows; offsets.len()];
         for rows in (1..given.rows).rev() {
-            if let Some(first) = self.earliest_agreement(given, rows) {
+            if let Some(first) = self.earliest_agreement(given, mask, rows) {
                 for (place, offset) in offsets.iter().enumerate() {
                     if offset.is_none_or(|k| first <= k) {
                         least[place] = rows;
@@ -251,9 +226,9 @@ impl Cutter {
     }
 
     /// The least length from which on some table of `rows` rows agrees with
-    /// the given one; none if every such table differs after infinitely many
-    /// runs.
-    fn earliest_agreement(&self, given: &Table, rows: usize) -> Option<usize> {
+    /// the given one; none if every such table differs after runs of every
+    /// length.
+    fn earliest_agreement(&self, given: &Table, mask: Mask, rows: usize) -> Option<usize> {
         let count = given.rows * rows;
         assert!(count <= 64);
         // Pairs whose given row is ready; pairs whose other row is row q.
@@ -266,61 +241,79 @@ impl Cutter {
             with_row[pair % rows] |= 1 << pair;
         }
 
-        let mut best: Option<usize> = None;
-        let mut onward = vec![0u64; count];
-        let mut sets: Vec<u64> = Vec::new();
-        for form in &self.forms[rows - 1] {
-            for (pair, onward) in onward.iter_mut().enumerate() {
-                *onward = 0;
+        let some_marks_agree = |set: u64| {
+            with_row.iter().all(|pairs| {
+                let ready = set & pairs & given_ready;
+                ready == 0 || ready == set & pairs
+            })
+        };
+        let mut lines = Lines { counted: vec![0; count], idle: vec![0; count] };
+        let lengths = self.forms[rows - 1].iter().filter_map(|form| {
+            lines.set(given, mask, form, rows);
+            lines.first_from(1 << (given.start * rows), some_marks_agree)
+        });
+        lengths.min()
+    }
+}
+
+/// For each pair the pairs to which counted events lead from it, and those to
+/// which idle ones do.
+struct Lines {
+    counted: Vec<u64>,
+    idle: Vec<u64>,
+}
+
+impl Lines {
+    fn set(&mut self, given: &Table, mask: Mask, form: &[usize], rows: usize) {
+        for p in 0..given.rows {
+            for q in 0..rows {
+                let mut onward = [0, 0];
                 for event in 0..given.events {
-                    let p = given.target(pair / rows, event);
-                    let q = form[pair % rows * given.events + event];
-                    *onward |= 1 << (p * rows + q);
+                    let next = given.target(p, event) * rows + form[q * given.events + event];
+                    onward[counted(mask, event)] |= 1 << next;
                 }
-            }
-            let step = |set: u64| {
-                let mut rest = set;
-                let mut next = 0;
-                while rest != 0 {
-                    next |= onward[rest.trailing_zeros() as usize];
-                    rest &= rest - 1;
-                }
-                next
-            };
-            // FROM(0): all pairs that can be reached from the starts.
-            let mut all: u64 = 1 << (given.start * rows);
-            loop {
-                let more = all | step(all);
-                if more == all {
-                    break;
-                }
-                all = more;
-            }
-            sets.clear();
-            sets.push(all);
-            loop {
-                let last = sets[sets.len() - 1];
-                let next = step(last);
-                if next == last {
-                    break;
-                }
-                sets.push(next);
-            }
-            for marks in 0..1usize << rows {
-                let mut other_ready = 0u64;
-                for (row, pairs) in with_row.iter().enumerate() {
-                    if marks >> row & 1 == 1 {
-                        other_ready |= pairs;
-                    }
-                }
-                let differing = given_ready ^ other_ready;
-                let first = sets.iter().position(|set| set & differing == 0);
-                if let Some(first) = first {
-                    best = Some(best.map_or(first, |best| best.min(first)));
-                }
+                [self.idle[p * rows + q], self.counted[p * rows + q]] = onward;
             }
         }
-        best
+    }
+
+    /// The first k for which FROM(k), begun at these starts, is as wanted; none if
+    /// LAST is not.
+    fn first_from(&self, starts: u64, wanted: impl Fn(u64) -> bool) -> Option<usize> {
+        let mut set = grown(starts, |set| step(&self.counted, set) | step(&self.idle, set));
+        for k in 0.. {
+            if wanted(set) {
+                return Some(k);
+            }
+            let next = grown(step(&self.counted, set), |set| step(&self.idle, set));
+            if next == set {
+                break;
+            }
+            set = next;
+        }
+        None
+    }
+}
+
+/// What lines make of a set.
+fn step(lines: &[u64], set: u64) -> u64 {
+    let mut rest = set;
+    let mut next = 0;
+    while rest != 0 {
+        next |= lines[rest.trailing_zeros() as usize];
+        rest &= rest - 1;
+    }
+    next
+}
+
+/// The set with what the step makes of it, again and again until nothing is new.
+fn grown(mut set: u64, step: impl Fn(u64) -> u64) -> u64 {
+    loop {
+        let more = set | step(set);
+        if more == set {
+            return set;
+        }
+        set = more;
     }
 }
 
@@ -347,10 +340,10 @@ pub fn count_all(rows: usize, events: usize) -> usize {
 /// The same as [`Cutter::least`] for one offset, as plainly as can be: every
 /// table with fewer rows, with all targets, marks and starts, one after the
 /// other, with [`agree`]. Slow; the self-test compares the two.
-pub fn least_plain(given: &Table, offset: Offset) -> usize {
+pub fn least_plain(given: &Table, mask: Mask, offset: Offset) -> usize {
     for rows in 1..given.rows {
         for number in 0..count_all(rows, given.events) {
-            if agree(given, &table_number(rows, given.events, number), offset) {
+            if agree(given, &table_number(rows, given.events, number), mask, offset) {
                 return rows;
             }
         }

@@ -1,17 +1,17 @@
 //! Damaged images and random bytes, handed to a test one by one, and the
 //! comparison of what is printed for them.
 //!
-//! An input of `reduce` is a head of two bytes, the offset, and an image; an
-//! input of `sheet` is an image alone, so its head is empty. So is a radio image's;
-//! a pack's head is its count.
+//! An input of `reduce` is a head of six bytes, offset and mask, and an image; the
+//! head of an input of `sheet` is the mask alone. A radio image has no head; a
+//! pack's is its count.
 
 use crate::calls::{own_image, own_pack};
 use crate::judge::hexadecimal;
 use crate::parallel::spread;
 use crate::product::Program;
 use crate::random::Random;
-use crate::shapes::{table, Shape, SHAPES};
-use crate::table::{Offset, Table};
+use crate::shapes::{mask, table, Shape, SHAPES};
+use crate::table::{Mask, Offset, Table};
 use std::sync::Mutex;
 
 /// Compares the text printed for one input with the expected one; answers the
@@ -34,7 +34,7 @@ pub fn same(program: Program, input: &[u8], expected: &str) -> Result<usize, Str
 
 /// Counts answers by refusal number.
 #[derive(Default)]
-pub struct Answers(Mutex<[usize; 16]>);
+pub struct Answers(Mutex<[usize; 17]>);
 
 impl Answers {
     /// Counts an answer, as of [`same`]; stops at a fault.
@@ -65,9 +65,9 @@ impl Answers {
 /// The inputs of a program, or of a reader of request 102.
 #[derive(Clone, Copy)]
 pub enum Inputs {
-    /// An offset and an image.
+    /// An offset, a mask and an image.
     OfReduce,
-    /// An image.
+    /// A mask and an image.
     OfSheet,
     /// A radio image.
     OfRadio,
@@ -76,11 +76,12 @@ pub enum Inputs {
 }
 
 impl Inputs {
-    /// A head for one image: offset 0, or count 1.
+    /// A head for one image: offset 0 and a mask for any events, or count 1.
     fn plain_head(self) -> &'static [u8] {
         match self {
-            Inputs::OfReduce => &[0, 0],
-            Inputs::OfSheet | Inputs::OfRadio => &[],
+            Inputs::OfReduce => &[0, 0, 1, 0, 0, 0],
+            Inputs::OfSheet => &[1, 0, 0, 0],
+            Inputs::OfRadio => &[],
             Inputs::OfPack => &[1, 0],
         }
     }
@@ -90,11 +91,27 @@ impl Inputs {
         self.plain_head().len()
     }
 
-    /// An input for a table; only `reduce` is told an offset.
-    fn of(self, table: &Table, offset: Offset) -> Vec<u8> {
+    /// Where the mask stands.
+    fn mask_place(self) -> Option<usize> {
         match self {
-            Inputs::OfReduce => table.input(offset),
-            Inputs::OfSheet => table.image(),
+            Inputs::OfReduce => Some(2),
+            Inputs::OfSheet => Some(0),
+            Inputs::OfRadio | Inputs::OfPack => None,
+        }
+    }
+
+    /// The input with another mask.
+    fn remasked(self, input: &[u8], mask: Mask) -> Vec<u8> {
+        let place = self.mask_place().expect("only programs are told a mask");
+        [&input[..place], &mask.to_le_bytes(), &input[place + 4..]].concat()
+    }
+
+    /// An input for a table; only `reduce` is told an offset, and only programs
+    /// are told a mask.
+    fn of(self, table: &Table, offset: Offset, mask: Mask) -> Vec<u8> {
+        match self {
+            Inputs::OfReduce => table.input(offset, mask),
+            Inputs::OfSheet => table.sheet_input(mask),
             Inputs::OfRadio => own_image(table),
             Inputs::OfPack => own_pack(&[table]),
         }
@@ -106,15 +123,15 @@ impl Inputs {
         let a = Table::new(1, 0, &[1, 2, 2], &[true, false, false]);
         let e = Table::new(2, 0, &[0, 0], &[false]);
         let d = Table::new(2, 3, &[1, 2, 0, 0, 0, 0, 0, 0], &[false, true, false, false]);
-        let mut list = vec![(a, Some(0)), (e, Some(3)), (d, Some(1))];
-        for (shape, rows, events) in [
-            (Shape::Free, 8, 1),
-            (Shape::Chain, 9, 2),
-            (Shape::Tree, 7, 3),
-            (Shape::Copies, 16, 2),
-            (Shape::Layers, 17, 1),
+        let mut list = vec![(a, Some(0), 1), (e, Some(3), 2), (d, Some(1), 1)];
+        for (shape, rows, events, mask) in [
+            (Shape::Free, 8, 1, 0),
+            (Shape::Chain, 9, 2, 3),
+            (Shape::Tree, 7, 3, 5),
+            (Shape::Copies, 16, 2, 1),
+            (Shape::Layers, 17, 1, 1),
         ] {
-            list.push((table(&mut random, shape, rows, events), None));
+            list.push((table(&mut random, shape, rows, events), None, mask));
         }
         if let Inputs::OfPack = self {
             let choices: [&[usize]; 5] =
@@ -123,7 +140,7 @@ impl Inputs {
                 .map(|choice| own_pack(&choice.iter().map(|&n| &list[n].0).collect::<Vec<_>>()))
                 .to_vec();
         }
-        list.iter().map(|(table, offset)| self.of(table, *offset)).collect()
+        list.iter().map(|(table, offset, mask)| self.of(table, *offset, *mask)).collect()
     }
 
     /// Each single byte of the sound inputs set to each value.
@@ -142,32 +159,63 @@ impl Inputs {
     /// The sound inputs cut at each length, also with a wrong byte of the image
     /// before the cut, and extended by each byte.
     pub fn cut_and_extended(self, test: impl Fn(&[u8])) {
-        for input in self.sound() {
-            for length in 0..input.len() {
-                test(&input[..length]);
-                for place in self.head()..length {
-                    let mut changed = input[..length].to_vec();
-                    changed[place] = 255;
-                    test(&changed);
-                }
+        self.sound().iter().for_each(|input| self.cut_and_extend(input, &test));
+    }
+
+    fn cut_and_extend(self, input: &[u8], test: impl Fn(&[u8])) {
+        for length in 0..input.len() {
+            test(&input[..length]);
+            for place in self.head()..length {
+                let mut changed = input[..length].to_vec();
+                changed[place] = 255;
+                test(&changed);
             }
-            for value in 0..=255 {
-                let mut longer = input.clone();
-                longer.push(value);
-                test(&longer);
-            }
+        }
+        for value in 0..=255 {
+            test(&[input, &[value]].concat());
         }
     }
 
     /// The sound inputs with a byte more, and each byte of the image wrong.
     pub fn wrong_and_extended(self, test: impl Fn(&[u8])) {
+        self.sound().iter().for_each(|input| self.wrong(input, &[0], &test));
+    }
+
+    /// Each byte of the image wrong, and these bytes more.
+    fn wrong(self, input: &[u8], more: &[u8], test: impl Fn(&[u8])) {
+        for place in self.head()..input.len() {
+            for value in [0, 9, 255] {
+                let mut changed = [input, more].concat();
+                changed[place] = value;
+                test(&changed);
+            }
+        }
+    }
+
+    /// The sound inputs with mask bits above their events, which are 3 at most:
+    /// whole, and with an image that is refused by itself.
+    pub fn too_high_masks(self, test: impl Fn(&[u8])) {
         for input in self.sound() {
-            for place in self.head()..input.len() {
-                for value in [0, 9, 255] {
-                    let mut changed = input.clone();
-                    changed[place] = value;
-                    changed.push(0);
-                    test(&changed);
+            for mask in [1 << 3, 1 << 8, 1 << 31 | 1, Mask::MAX] {
+                let input = self.remasked(&input, mask);
+                test(&input);
+                self.cut_and_extend(&input, &test);
+                self.wrong(&input, &[], &test);
+                self.wrong(&input, &[0], &test);
+            }
+        }
+    }
+
+    /// Each bit alone, all bits from it on and all below it, with each number of
+    /// events: up to 31 events some are too high, at 32 none is.
+    pub fn each_mask_bit(self, test: impl Fn(&[u8])) {
+        let mut random = Random::new(55_000);
+        for events in 1..=32 {
+            let given = table(&mut random, Shape::Falling, 5, events);
+            let input = self.of(&given, Some(2), 0);
+            for bit in 0..32 {
+                for mask in [1 << bit, Mask::MAX << bit, !(Mask::MAX << bit)] {
+                    test(&self.remasked(&input, mask));
                 }
             }
         }
@@ -177,7 +225,7 @@ impl Inputs {
     /// at each length, each target made no row, and other bytes changed.
     pub fn largest(self, test: impl Fn(&[u8]) + Sync) {
         let mut random = Random::new(51_000);
-        let input = self.of(&table(&mut random, Shape::Falling, 128, 32), Some(9));
+        let input = self.of(&table(&mut random, Shape::Falling, 128, 32), Some(9), 0x8421_8421);
         assert_eq!(input.len(), self.head() + 8_216);
         for length in 0..input.len() {
             test(&input[..length]);
@@ -260,7 +308,7 @@ impl Inputs {
             }
             // Bytes made section by section, so that later sections are reached.
             for _ in 0..500 {
-                let mut input = [random.below(9) as u8, 0][..self.head()].to_vec();
+                let mut input = self.random_head(&mut random);
                 let images = if let Inputs::OfPack = self { input[0] } else { 1 };
                 for _ in 0..images {
                     self.push_sections(&mut random, &mut input);
@@ -274,6 +322,19 @@ impl Inputs {
                 test(&input);
             }
         });
+    }
+
+    /// A head with a small offset or count, and a mask of few events that is now
+    /// and then too high.
+    fn random_head(self, random: &mut Random) -> Vec<u8> {
+        let mut head = vec![random.below(9) as u8, 0];
+        head.truncate(self.mask_place().unwrap_or(self.head()));
+        if self.mask_place().is_some() {
+            let events = random.between(1, 4);
+            let high = if random.chance(1, 20) { 1 << random.below(32) } else { 0 };
+            head.extend((mask(random, events) | high).to_le_bytes());
+        }
+        head
     }
 
     /// The sections of an image, now and then with something wrong in them.
@@ -324,7 +385,7 @@ impl Inputs {
                 test(&input);
             }
             for shape in SHAPES {
-                let mut input = self.of(&table(&mut random, shape, 128, 32), None);
+                let mut input = self.of(&table(&mut random, shape, 128, 32), None, Mask::MAX);
                 if input.len() < length {
                     input.resize(length, 7);
                 }

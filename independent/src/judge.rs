@@ -9,11 +9,13 @@
 
 use crate::cutter::agree_large;
 use crate::rules::{Fate, Length};
-use crate::table::{Offset, Table};
+use crate::table::{counted, Mask, Offset, Table};
 
 /// A listing read back.
 pub struct Listing {
     pub table: Table,
+    /// How many events count.
+    pub counted: usize,
     pub fates: Vec<Fate>,
     pub depths: Vec<Option<Length>>,
 }
@@ -25,10 +27,10 @@ pub fn read_listing(text: &[u8]) -> Result<Listing, String> {
     let mut line = || lines.next().ok_or("a line is missing");
 
     let head = line()?;
-    let ["table", rows, events] = head[..] else {
+    let ["table", rows, events, counted] = head[..] else {
         return Err(format!("first line {head:?}"));
     };
-    let (rows, events) = (number(rows)?, number(events)?);
+    let (rows, events, counted) = (number(rows)?, number(events)?, number(counted)?);
     let mut targets = Vec::new();
     let mut marks = Vec::new();
     for row in 0..rows {
@@ -74,7 +76,7 @@ pub fn read_listing(text: &[u8]) -> Result<Listing, String> {
     if !table.is_sound() {
         return Err("the printed table is not sound".to_string());
     }
-    Ok(Listing { table, fates, depths })
+    Ok(Listing { table, counted, fates, depths })
 }
 
 /// The words of each line.
@@ -100,26 +102,39 @@ fn length(word: &str) -> Result<Length, String> {
     }
 }
 
+/// How many of so many events count.
+pub fn count_counted(events: usize, mask: Mask) -> usize {
+    (0..events).map(|event| counted(mask, event)).sum()
+}
+
 /// The depth of every row, straight from the lengths of runs: the rows on
-/// which runs of length exactly 0, 1, 2, ... end. (rules.rs does it otherwise.)
+/// which runs of counted length exactly 0, 1, 2, ... end. (rules.rs does it
+/// otherwise.)
 ///
-/// A run of `rows` events or more stands twice on some row, and what lies
-/// between can be repeated: so a row on which such a run ends is endless. If a
-/// row is endless, take a shortest among the runs of `rows` or more events
-/// ending on it: it has fewer than 2 × rows events, since otherwise a round of
-/// at most `rows` events could be left out of it. So lengths below 2 × rows
+/// A run of length `rows` or more stands twice on some row with a counted event
+/// between, and what lies between can be repeated: so a row on which such a run
+/// ends is endless. If a row is endless, take a shortest among the runs of length
+/// `rows` or more ending on it: its length is below 2 × rows, since otherwise a
+/// round of length 1 to `rows` could be left out of it. So lengths below 2 × rows
 /// tell all.
-pub fn depths_by_lengths(table: &Table) -> Vec<Option<Length>> {
+pub fn depths_by_lengths(table: &Table, mask: Mask) -> Vec<Option<Length>> {
     let mut depth = vec![None; table.rows];
     let mut here = vec![false; table.rows];
     here[table.start] = true;
     for length in 0..2 * table.rows {
         let mut next = vec![false; table.rows];
-        for row in (0..table.rows).filter(|&row| here[row]) {
+        let mut open: Vec<usize> = (0..table.rows).filter(|&row| here[row]).collect();
+        while let Some(row) = open.pop() {
             depth[row] =
                 Some(if length < table.rows { Length::Of(length) } else { Length::Endless });
             for event in 0..table.events {
-                next[table.target(row, event)] = true;
+                let target = table.target(row, event);
+                if counted(mask, event) == 1 {
+                    next[target] = true;
+                } else if !here[target] {
+                    here[target] = true;
+                    open.push(target);
+                }
             }
         }
         here = next;
@@ -128,15 +143,18 @@ pub fn depths_by_lengths(table: &Table) -> Vec<Option<Length>> {
 }
 
 /// Do the parts of a listing fit each other and the given table?
-pub fn fits(given: &Table, listing: &Listing) -> Result<(), String> {
+pub fn fits(given: &Table, mask: Mask, listing: &Listing) -> Result<(), String> {
     let new = &listing.table;
     if new.events != given.events {
         return Err("events".to_string());
     }
+    if listing.counted != count_counted(given.events, mask) {
+        return Err("how many events count".to_string());
+    }
     if listing.fates.len() != given.rows {
         return Err("the count of records".to_string());
     }
-    if listing.depths != depths_by_lengths(given) {
+    if listing.depths != depths_by_lengths(given, mask) {
         return Err("depths".to_string());
     }
     // Every new number is given once.
@@ -207,13 +225,13 @@ pub fn fits(given: &Table, listing: &Listing) -> Result<(), String> {
     Ok(())
 }
 
-/// The judgement of one text for a given table and offset, without rules.rs:
-/// it is a listing, its parts fit, and its table agrees with the given one.
-/// Answers the new row count.
-pub fn judge(given: &Table, offset: Offset, text: &[u8]) -> Result<usize, String> {
+/// The judgement of one text for a given table, mask and offset, without
+/// rules.rs: it is a listing, its parts fit, and its table agrees with the given
+/// one. Answers the new row count.
+pub fn judge(given: &Table, mask: Mask, offset: Offset, text: &[u8]) -> Result<usize, String> {
     let listing = read_listing(text)?;
-    fits(given, &listing)?;
-    if !agree_large(given, &listing.table, offset) {
+    fits(given, mask, &listing)?;
+    if !agree_large(given, &listing.table, mask, offset) {
         return Err("the new table does not agree".to_string());
     }
     Ok(listing.table.rows)
@@ -225,10 +243,18 @@ pub fn all_offsets(rows: usize) -> Vec<Offset> {
 }
 
 /// Stops with all that is needed to see a fault again.
-pub fn stop(what: &str, given: &Table, offset: Offset, printed: &[u8], expected: &str) -> ! {
+pub fn stop(
+    what: &str,
+    given: &Table,
+    mask: Mask,
+    offset: Offset,
+    printed: &[u8],
+    expected: &str,
+) -> ! {
     panic!(
-        "{what}\ntable {given:?}\noffset {offset:?}\ninput {}\nprinted:\n{}\nexpected:\n{expected}",
-        hexadecimal(&given.input(offset)),
+        "{what}\ntable {given:?}\nmask {mask:b}\noffset {offset:?}\ninput {}\nprinted:\n{}\n\
+         expected:\n{expected}",
+        hexadecimal(&given.input(offset, mask)),
         String::from_utf8_lossy(printed)
     )
 }

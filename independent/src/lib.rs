@@ -1,5 +1,5 @@
 //! An independent reading of document 01 ("Ready tables and their
-//! reduction") and of requests 101 and 102, made to be compared with the
+//! reduction") and of requests 101, 102 and 104, made to be compared with the
 //! product.
 
 pub mod calls;
@@ -7,6 +7,7 @@ pub mod cutter;
 pub mod damage;
 pub mod faulty;
 pub mod judge;
+pub mod mistaken;
 pub mod parallel;
 pub mod product;
 pub mod radio;

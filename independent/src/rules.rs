@@ -1,7 +1,9 @@
 //! Document 01, "The rules of reduction", sentence by sentence, and the text
-//! that `reduce` prints ("Tables to try", last paragraphs).
+//! that `reduce` prints ("Tables to try", last paragraphs). Request 104: "Run
+//! length, depth, distance, offset ... take in counted events only; breadth-first
+//! order still takes all."
 
-use crate::table::{read_input, Offset, Refusal, Table};
+use crate::table::{counted, read_input, Mask, Offset, Refusal, Table};
 use std::collections::VecDeque;
 
 /// A depth or a distance: a length, or endless. Every length is below endless
@@ -12,6 +14,15 @@ pub enum Length {
     Endless,
 }
 use Length::{Endless, Of};
+
+impl Length {
+    fn plus(self, more: usize) -> Length {
+        match self {
+            Of(length) => Of(length + more),
+            Endless => Endless,
+        }
+    }
+}
 
 #[derive(Clone, Copy, Debug, PartialEq, Eq, Hash)]
 pub enum Fate {
@@ -24,27 +35,27 @@ pub enum Fate {
 
 /// The depth of every row: "the length of the longest run leading from the
 /// start to it; endless if there is no longest. A row no run leads to is
-/// unreached" (here: no depth).
+/// unreached" (here: no depth). Lengths are counted ones.
 ///
-/// Way: lengths of runs are handed on from row to row until nothing grows. A
-/// run of `rows` events or more stands on some row twice, so the part between
-/// can be repeated at will: a length that reaches `rows` means endless.
-/// Conversely an endless row has runs of every size, so its length grows until
-/// it reaches `rows`.
-pub fn depths(table: &Table) -> Vec<Option<Length>> {
+/// Way: lengths of runs are handed on from row to row until nothing grows. A run
+/// of length `rows` or more stands twice on some row with a counted event
+/// between, and this part can be repeated at will: a length that reaches `rows`
+/// means endless. Conversely an endless row has runs of every length, so its
+/// length grows until it reaches `rows`.
+pub fn depths(table: &Table, mask: Mask) -> Vec<Option<Length>> {
     let mut depth: Vec<Option<Length>> = vec![None; table.rows];
     depth[table.start] = Some(Of(0));
-    let mut waiting = VecDeque::from([table.start]);
-    while let Some(row) = waiting.pop_front() {
-        let onward = match depth[row] {
-            Some(Of(length)) if length + 1 < table.rows => Of(length + 1),
-            _ => Endless,
-        };
+    let mut waiting = VecDeque::from([(table.start, Of(0))]);
+    while let Some((row, length)) = waiting.pop_front() {
         for event in 0..table.events {
+            let onward = match length.plus(counted(mask, event)) {
+                Of(length) if length < table.rows => Of(length),
+                _ => Endless,
+            };
             let target = table.target(row, event);
             if depth[target].is_none_or(|known| known < onward) {
                 depth[target] = Some(onward);
-                waiting.push_back(target);
+                waiting.push_back((target, onward));
             }
         }
     }
@@ -54,97 +65,59 @@ pub fn depths(table: &Table) -> Vec<Option<Length>> {
 /// The distance of every two rows, as one list of rows × rows: "the least
 /// length L such that, begun at either, every run of length L or more ends at
 /// equal marks; 0 if they agree on all runs; endless if there is no such L".
+/// Lengths are counted ones.
 ///
-/// Way: the pairs of different rows are the points of a graph, with a line
-/// for each event. A run of length L after which two rows differ is a path of
-/// L lines from their pair to a pair with differing marks. So only pairs from
-/// which such a pair can be reached matter. The distance is one more than the
-/// longest such path; it is endless if a round of such pairs can be reached,
-/// since then paths to a differing pair may be as long as one likes.
-pub fn distances(table: &Table) -> Vec<Length> {
-    let rows = table.rows;
-    // A pair has the number low × rows + high; a row with itself never differs.
-    let onward = |pair: usize, event: usize| -> Option<usize> {
-        let one = table.target(pair / rows, event);
-        let other = table.target(pair % rows, event);
-        (one != other).then(|| one.min(other) * rows + one.max(other))
-    };
-    let pairs: Vec<usize> =
-        (0..rows).flat_map(|low| (low + 1..rows).map(move |high| low * rows + high)).collect();
-
-    // Lines backward, to find every pair that can reach a differing pair.
-    let mut before: Vec<Vec<u32>> = vec![Vec::new(); rows * rows];
-    for &pair in &pairs {
-        for event in 0..table.events {
-            if let Some(next) = onward(pair, event) {
-                if before[next].last() != Some(&(pair as u32)) {
-                    before[next].push(pair as u32);
-                }
-            }
-        }
-    }
-    let mut matters = vec![false; rows * rows];
-    let mut open: Vec<usize> = Vec::new();
-    for &pair in &pairs {
-        if table.marks[pair / rows] != table.marks[pair % rows] {
-            matters[pair] = true;
-            open.push(pair);
-        }
-    }
-    while let Some(pair) = open.pop() {
-        for &earlier in &before[pair] {
-            if !matters[earlier as usize] {
-                matters[earlier as usize] = true;
-                open.push(earlier as usize);
-            }
-        }
-    }
-
-    // Walk into depth among the pairs that matter. A pair on the present path
-    // that is met again closes a round; whoever meets it is endless.
+/// Way: the pairs of different rows are the points of a graph, with a line for
+/// each event. A run after which two rows differ is a path from their pair to a
+/// pair with differing marks, and its length is how many of its lines are of
+/// counted events. So only pairs from which such a pair can be reached matter.
+/// They fall into groups: those of one group lead to each other. If a line of a
+/// counted event stays in a group, a path may go round on it as often as one
+/// likes, and whoever reaches the group is endless. Otherwise the lines within
+/// the group are idle, so the longest path is as long from each of its pairs,
+/// and it goes by a line that leaves the group, if not to one of its own pairs.
+/// The distance is one more than the length of the longest path.
+pub fn distances(table: &Table, mask: Mask) -> Vec<Length> {
     #[derive(Clone, Copy, PartialEq)]
-    enum Stage {
-        New,
-        OnPath,
-        Done(Length),
+    enum Place {
+        Aside,
+        Waiting,
+        InGroup(usize),
     }
-    let mut stage = vec![Stage::New; rows * rows];
-    for &first in &pairs {
-        if !matters[first] || stage[first] != Stage::New {
+    let rows = table.rows;
+    let matter = pairs_that_matter(table);
+    let mut place = vec![Place::Aside; rows * rows];
+    matter.iter().for_each(|&pair| place[pair] = Place::Waiting);
+    let mut distance = vec![Of(0); rows * rows];
+    // If a line leads from one group into another, the walk backward leaves some
+    // pair of the other after all of the one. So taken from the last on, a pair
+    // not yet in a group leads to its own group and to groups taken before.
+    for &first in matter.iter().rev() {
+        if place[first] != Place::Waiting {
             continue;
         }
-        // Each entry: pair, the next event to look at, the best so far. A pair
-        // that matters has at least the empty run, or a line to one that does.
-        let mut path: Vec<(usize, usize, Length)> = vec![(first, 0, Of(1))];
-        stage[first] = Stage::OnPath;
-        while let Some((pair, event, best)) = path.pop() {
-            if event == table.events {
-                stage[pair] = Stage::Done(best);
-                continue;
-            }
-            let next = onward(pair, event).filter(|&next| matters[next]);
-            match next.map(|next| (next, stage[next])) {
-                None => path.push((pair, event + 1, best)),
-                Some((_, Stage::OnPath)) => path.push((pair, event + 1, Endless)),
-                Some((_, Stage::Done(length))) => {
-                    let through = match length {
-                        Of(length) => Of(length + 1),
-                        Endless => Endless,
-                    };
-                    path.push((pair, event + 1, best.max(through)));
+        let own = Place::InGroup(first);
+        let mut group = vec![first];
+        place[first] = own;
+        let mut length = Of(1);
+        let mut at = 0;
+        while at < group.len() {
+            for event in 0..table.events {
+                let Some(next) = pair_onward(table, group[at], event) else { continue };
+                if place[next] == Place::Waiting {
+                    place[next] = own;
+                    group.push(next);
                 }
-                Some((next, Stage::New)) => {
-                    path.push((pair, event, best));
-                    path.push((next, 0, Of(1)));
-                    stage[next] = Stage::OnPath;
-                }
+                // (The distance 0 of a pair that does not matter adds nothing.)
+                length = length.max(match (place[next] == own, counted(mask, event)) {
+                    (true, 0) => Of(0),
+                    (true, _) => Endless,
+                    (false, more) => distance[next].plus(more),
+                });
             }
+            at += 1;
         }
-    }
-
-    let mut distance = vec![Of(0); rows * rows];
-    for &pair in &pairs {
-        if let Stage::Done(length) = stage[pair] {
+        for &pair in &group {
             distance[pair] = length;
             distance[pair % rows * rows + pair / rows] = length;
         }
@@ -152,16 +125,73 @@ pub fn distances(table: &Table) -> Vec<Length> {
     distance
 }
 
-/// Depths and distances of one table, from which all offsets follow.
+/// The pair to which an event leads from a pair of different rows. A pair has the
+/// number low × rows + high; a row with itself never differs, and is left out.
+fn pair_onward(table: &Table, pair: usize, event: usize) -> Option<usize> {
+    let one = table.target(pair / table.rows, event);
+    let other = table.target(pair % table.rows, event);
+    (one != other).then(|| one.min(other) * table.rows + one.max(other))
+}
+
+/// The pairs from which a differing pair can be reached, in the order in which a
+/// walk into depth, backward from the differing pairs, leaves them for good.
+fn pairs_that_matter(table: &Table) -> Vec<usize> {
+    let rows = table.rows;
+    let pairs: Vec<usize> =
+        (0..rows).flat_map(|low| (low + 1..rows).map(move |high| low * rows + high)).collect();
+    let mut before: Vec<Vec<u32>> = vec![Vec::new(); rows * rows];
+    for &pair in &pairs {
+        for event in 0..table.events {
+            if let Some(next) = pair_onward(table, pair, event) {
+                if before[next].last() != Some(&(pair as u32)) {
+                    before[next].push(pair as u32);
+                }
+            }
+        }
+    }
+    let differs = |&pair: &usize| table.marks[pair / rows] != table.marks[pair % rows];
+    in_order_left(pairs.into_iter().filter(differs), &before)
+}
+
+/// All points to which the lines lead from the first ones, these included, in
+/// the order in which a walk into depth leaves them for good.
+fn in_order_left(firsts: impl Iterator<Item = usize>, lines: &[Vec<u32>]) -> Vec<usize> {
+    let mut met = vec![false; lines.len()];
+    let mut left = Vec::new();
+    for first in firsts {
+        // Each entry: a point of the present path, and the next line to look at.
+        let mut path: Vec<(usize, usize)> = Vec::new();
+        if !met[first] {
+            met[first] = true;
+            path.push((first, 0));
+        }
+        while let Some((point, line)) = path.pop() {
+            let Some(&next) = lines[point].get(line) else {
+                left.push(point);
+                continue;
+            };
+            path.push((point, line + 1));
+            if !met[next as usize] {
+                met[next as usize] = true;
+                path.push((next as usize, 0));
+            }
+        }
+    }
+    left
+}
+
+/// Depths and distances of one table and mask, from which all offsets follow.
 pub struct Study {
     pub table: Table,
+    pub mask: Mask,
     pub depth: Vec<Option<Length>>,
     pub distance: Vec<Length>,
 }
 
 impl Study {
-    pub fn of(table: &Table) -> Study {
-        Study { table: table.clone(), depth: depths(table), distance: distances(table) }
+    pub fn of(table: &Table, mask: Mask) -> Study {
+        let (depth, distance) = (depths(table, mask), distances(table, mask));
+        Study { table: table.clone(), mask, depth, distance }
     }
 
     pub fn distance(&self, one: usize, other: usize) -> Length {
@@ -191,10 +221,13 @@ impl Study {
         }
     }
 
+    /// The reduction, also with faulty depths or distances.
+    pub fn fold(&self, offset: Offset) -> Reduced {
+        assemble(&self.table, &self.depth, &|one, other| self.similar(one, other, offset))
+    }
+
     pub fn reduce(&self, offset: Offset) -> Reduced {
-        let reduced = assemble(&self.table, &self.depth, &|one, other| {
-            self.similar(one, other, offset)
-        });
+        let reduced = self.fold(offset);
         // If a kept row were not met from the new start, the table without it
         // would agree as well, and have fewer rows. So this cannot be.
         assert_eq!(reduced.unmet, 0, "a kept row was not met: {:?} at {offset:?}", self.table);
@@ -202,7 +235,7 @@ impl Study {
     }
 
     pub fn text(&self, offset: Offset) -> String {
-        listing(&self.reduce(offset))
+        listing(&self.reduce(offset), self.mask)
     }
 }
 
@@ -291,10 +324,11 @@ pub fn assemble(
 /// "The first line gives new rows and events; then each new row's number,
 /// targets and mark; then the count of given rows, and each one's number, fate
 /// and depth. `kept` is followed by the new number, `folded` by the given row.
-/// An unreached row prints `unreached` alone after its number."
-pub fn listing(reduced: &Reduced) -> String {
+/// An unreached row prints `unreached` alone after its number." And request 104:
+/// the "first line ends with how many events count".
+pub fn listing(reduced: &Reduced, mask: Mask) -> String {
     let table = &reduced.table;
-    let mut text = format!("table {} {}\n", table.rows, table.events);
+    let mut text = format!("table {} {} {}\n", table.rows, table.events, mask.count_ones());
     for row in 0..table.rows {
         text += &row.to_string();
         for event in 0..table.events {
@@ -325,7 +359,7 @@ pub fn refusal_text(refusal: Refusal) -> String {
 /// All that `reduce` prints for an input.
 pub fn text_for(input: &[u8]) -> String {
     match read_input(input) {
-        Ok((offset, table)) => Study::of(&table).text(offset),
+        Ok((offset, mask, table)) => Study::of(&table, mask).text(offset),
         Err(refusal) => refusal_text(refusal),
     }
 }

@@ -1,8 +1,9 @@
 //! Tables of many shapes, so that finite depths and finite distances occur
 //! often (a table whose targets are all random has hardly any).
 
+use crate::judge::depths_by_lengths;
 use crate::random::Random;
-use crate::table::Table;
+use crate::table::{counted, every_event, Mask, Table};
 
 #[derive(Clone, Copy, Debug, PartialEq, Eq)]
 pub enum Shape {
@@ -165,6 +166,46 @@ pub fn table(random: &mut Random, shape: Shape, rows: usize, events: usize) -> T
     }
     assert!(table.is_sound());
     table
+}
+
+/// A table of the shape and a mask. In half of the tables idle events lead round.
+pub fn with_mask(random: &mut Random, shape: Shape, rows: usize, events: usize) -> (Table, Mask) {
+    let given = table(random, shape, rows, events);
+    let mask = mask(random, events);
+    if random.chance(1, 2) {
+        (idling(random, &given, mask), mask)
+    } else {
+        (given, mask)
+    }
+}
+
+/// A mask of so many events: none counted, every event, one, all but one, or any.
+pub fn mask(random: &mut Random, events: usize) -> Mask {
+    let one = 1 << random.below(events);
+    match random.below(8) {
+        0 => 0,
+        1 | 2 => every_event(events),
+        3 => one,
+        4 => every_event(events) ^ one,
+        _ => random.bits() as Mask & every_event(events),
+    }
+}
+
+/// The table with many idle events leading to rows of the own row's depth, which
+/// is taken with every event counted. So they lead round in circles, and a depth
+/// that was finite remains so: every other event leads to a greater one.
+pub fn idling(random: &mut Random, table: &Table, mask: Mask) -> Table {
+    let depth = depths_by_lengths(table, every_event(table.events));
+    let mut other = table.clone();
+    for (cell, target) in other.targets.iter_mut().enumerate() {
+        let (row, event) = (cell / table.events, cell % table.events);
+        if counted(mask, event) == 0 && random.chance(2, 3) {
+            let level: Vec<usize> =
+                (0..table.rows).filter(|&other| depth[other] == depth[row]).collect();
+            *target = *random.pick(&level);
+        }
+    }
+    other
 }
 
 /// A comb, made for sheets: a spine of rows from the start on, each with a tooth,

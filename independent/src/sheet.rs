@@ -5,26 +5,27 @@
 //! ... Each entry is the row count of that offset's reduction, no entry exceeds
 //! the one before it, and the last is the count for no offset."
 //!
-//! `sheet` reads an image and prints `sheet`, the rows and the events; then for
-//! each offset from 0 to 2 × rows a line with the offset and its row count; then
-//! `none` and the row count for no offset. It refuses what `reduce` refuses of
-//! the image, in the same words.
+//! `sheet` reads a mask (request 104) and an image, and prints `sheet`, the rows,
+//! the events and how many of them count; then for each offset from 0 to 2 × rows
+//! a line with the offset and its row count; then `none` and the row count for no
+//! offset. It refuses what `reduce` refuses of mask and image, in the same words.
 
-use crate::judge::{all_offsets, lines_of, number};
+use crate::judge::{all_offsets, count_counted, lines_of, number};
 use crate::rules::{refusal_text, Study};
-use crate::table::{read_image, Offset, Table};
+use crate::table::{read_sheet_input, Mask, Offset, Table};
 
 /// The row counts of the reductions at each offset from 0 to twice the rows,
 /// and with none: one reduction after the other, by the rules of rules.rs.
-pub fn counts(table: &Table) -> Vec<usize> {
-    let study = Study::of(table);
+pub fn counts(table: &Table, mask: Mask) -> Vec<usize> {
+    let study = Study::of(table, mask);
     let offsets = all_offsets(table.rows);
     offsets.into_iter().map(|offset| study.reduce(offset).table.rows).collect()
 }
 
-/// The sheet of a table with these row counts, in the order of [`counts`].
-pub fn sheet(table: &Table, counts: &[usize]) -> String {
-    let mut text = format!("sheet {} {}\n", table.rows, table.events);
+/// The sheet of a table and mask with these row counts, in the order of
+/// [`counts`].
+pub fn sheet(table: &Table, mask: Mask, counts: &[usize]) -> String {
+    let mut text = format!("sheet {} {} {}\n", table.rows, table.events, mask.count_ones());
     for (offset, count) in all_offsets(table.rows).into_iter().zip(counts) {
         text += &format!("{} {count}\n", name(offset));
     }
@@ -37,8 +38,8 @@ fn name(offset: Offset) -> String {
 
 /// All that `sheet` prints for an input.
 pub fn text_for(input: &[u8]) -> String {
-    match read_image(input) {
-        Ok(table) => sheet(&table, &counts(&table)),
+    match read_sheet_input(input) {
+        Ok((mask, table)) => sheet(&table, mask, &counts(&table, mask)),
         Err(refusal) => refusal_text(refusal),
     }
 }
@@ -49,6 +50,8 @@ pub fn text_for(input: &[u8]) -> String {
 pub struct Sheet {
     pub rows: usize,
     pub events: usize,
+    /// How many events count.
+    pub counted: usize,
     pub counts: Vec<usize>,
 }
 
@@ -64,10 +67,10 @@ impl Sheet {
 pub fn read_sheet(text: &[u8]) -> Result<Sheet, String> {
     let mut lines = lines_of(text)?;
     let head = lines.next().ok_or("no line")?;
-    let ["sheet", rows, events] = head[..] else {
+    let ["sheet", rows, events, counted] = head[..] else {
         return Err(format!("first line {head:?}"));
     };
-    let (rows, events) = (number(rows)?, number(events)?);
+    let (rows, events, counted) = (number(rows)?, number(events)?, number(counted)?);
     if rows > 1024 {
         return Err(format!("{rows} rows"));
     }
@@ -85,15 +88,23 @@ pub fn read_sheet(text: &[u8]) -> Result<Sheet, String> {
     if lines.next().is_some() {
         return Err("lines follow the last one".to_string());
     }
-    Ok(Sheet { rows, events, counts })
+    Ok(Sheet { rows, events, counted, counts })
 }
 
-/// The judgement of one text for a given table and the row counts that it must
-/// list: it is a sheet, of that table's size, with these counts.
-pub fn judge_sheet(given: &Table, counts: &[usize], text: &[u8]) -> Result<Sheet, String> {
+/// The judgement of one text for a given table and mask and the row counts that
+/// it must list: it is a sheet, of that table's size, with these counts.
+pub fn judge_sheet(
+    given: &Table,
+    mask: Mask,
+    counts: &[usize],
+    text: &[u8],
+) -> Result<Sheet, String> {
     let sheet = read_sheet(text)?;
     if (sheet.rows, sheet.events) != (given.rows, given.events) {
         return Err(format!("rows {} and events {}", sheet.rows, sheet.events));
+    }
+    if sheet.counted != count_counted(given.events, mask) {
+        return Err(format!("{} events that count", sheet.counted));
     }
     for (place, offset) in all_offsets(given.rows).into_iter().enumerate() {
         if sheet.counts[place] != counts[place] {

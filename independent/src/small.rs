@@ -4,7 +4,13 @@ use crate::cutter::{count_all, forms, table_number};
 use crate::parallel::{spread, Counter};
 use crate::random::Random;
 use crate::shapes::renumbered;
-use crate::table::Table;
+use crate::table::{every_event, Mask, Table};
+use std::ops::RangeInclusive;
+
+/// All masks of so many events, from none counted to every event counted.
+pub fn all_masks(events: usize) -> RangeInclusive<Mask> {
+    0..=every_event(events)
+}
 
 /// Calls `check` once for each table with so many rows and events; answers how
 /// many tables that were.
@@ -28,8 +34,19 @@ pub fn all_reached_tables(
     seed: u64,
     check: impl Fn(&Table) + Sync,
 ) -> usize {
+    reached_tables([0, 1], rows, events, seed, check)
+}
+
+/// The same for a slice of these tables: each n-th form from the first on.
+pub fn reached_tables(
+    [first, n]: [usize; 2],
+    rows: usize,
+    events: usize,
+    seed: u64,
+    check: impl Fn(&Table) + Sync,
+) -> usize {
     let tried = Counter::default();
-    let list = forms(rows, events);
+    let list: Vec<Vec<usize>> = forms(rows, events).into_iter().skip(first).step_by(n).collect();
     spread(list.len(), |piece| {
         let mut random = Random::new(seed + piece as u64);
         for marks in 0..1usize << rows {

@@ -3,7 +3,7 @@
 //! Document 01: "A table has 1 to 1,024 rows and 1 to 32 events ... It has one
 //! start row and, for each row and event, one target row"; "Image of a table";
 //! and "The reader goes through the image in order, and the first rule broken
-//! gives the answer".
+//! gives the answer". Request 104: "A 32-bit mask now says which events count".
 
 /// A table in plain lists. The target of row r and event e is cell
 /// r × events + e ("row by row"); a mark is true for ready, false for wait.
@@ -30,6 +30,20 @@ pub type Offset = Option<usize>;
 /// The two bytes by which `reduce` is told of no offset.
 pub const NO_OFFSET: usize = 65_535;
 
+/// Which events count, "bit e for event e"; the others are idle. Also used for
+/// any other set of events.
+pub type Mask = u32;
+
+/// The mask of so many events that all count.
+pub fn every_event(events: usize) -> Mask {
+    Mask::MAX >> (32 - events)
+}
+
+/// What an event adds to the length of a run: 1 if it counts, 0 if it is idle.
+pub fn counted(mask: Mask, event: usize) -> usize {
+    (mask >> event & 1) as usize
+}
+
 impl Table {
     pub fn new(events: usize, start: usize, targets: &[usize], marks: &[bool]) -> Table {
         let table = Table {
@@ -54,11 +68,6 @@ impl Table {
 
     pub fn target(&self, row: usize, event: usize) -> usize {
         self.targets[row * self.events + event]
-    }
-
-    /// The row on which a run from `row` ends.
-    pub fn run_from(&self, row: usize, run: &[usize]) -> usize {
-        run.iter().fold(row, |at, &event| self.target(at, event))
     }
 
     /// The image: marks, targets, start, "each after its count".
@@ -87,8 +96,18 @@ impl Table {
         packed
     }
 
-    /// What `reduce` is given for this table and offset.
-    pub fn input(&self, offset: Offset) -> Vec<u8> {
+    /// What `sheet` is given for this table and mask: the mask "as four bytes,
+    /// low first", then the image.
+    pub fn sheet_input(&self, mask: Mask) -> Vec<u8> {
+        let mut bytes = Vec::new();
+        push_number(&mut bytes, mask as usize % 65_536);
+        push_number(&mut bytes, mask as usize / 65_536);
+        bytes.extend(self.image());
+        bytes
+    }
+
+    /// What `reduce` is given: the offset before all that.
+    pub fn input(&self, offset: Offset, mask: Mask) -> Vec<u8> {
         let mut bytes = Vec::new();
         match offset {
             None => push_number(&mut bytes, NO_OFFSET),
@@ -97,7 +116,7 @@ impl Table {
                 push_number(&mut bytes, k);
             }
         }
-        bytes.extend(self.image());
+        bytes.extend(self.sheet_input(mask));
         bytes
     }
 }
@@ -197,18 +216,50 @@ pub fn refuse<T>(number: usize) -> Result<T, Refusal> {
     Err(Refusal { number, place: 0 })
 }
 
-/// Reads what `reduce` reads: "a 16-bit offset, low byte first (65,535 is
-/// none), then an image. Fewer than two bytes give 8 with place 0."
-pub fn read_input(input: &[u8]) -> Result<(Offset, Table), Refusal> {
+/// Reads what `reduce` reads: an offset, and what `sheet` reads. "Fewer than six
+/// bytes before the image give 8, place 0."
+pub fn read_input(input: &[u8]) -> Result<(Offset, Mask, Table), Refusal> {
+    let (offset, rest) = take_offset(input)?;
+    read_sheet_input(rest).map(|(mask, table)| (offset, mask, table))
+}
+
+/// Reads what `sheet` reads: a mask, then an image. 16 comes "once the image is
+/// read".
+pub fn read_sheet_input(input: &[u8]) -> Result<(Mask, Table), Refusal> {
+    let (mask, image) = take_mask(input)?;
+    let table = read_image(image)?;
+    check_mask(mask, table.events)?;
+    Ok((mask, table))
+}
+
+/// "a 16-bit offset, low byte first (65,535 is none)", and the rest.
+pub fn take_offset(input: &[u8]) -> Result<(Offset, &[u8]), Refusal> {
     if input.len() < 2 {
         return refuse(8);
     }
-    let (head, image) = input.split_at(2);
+    let (head, rest) = input.split_at(2);
     let offset = match number_of(head) {
         NO_OFFSET => None,
         k => Some(k),
     };
-    read_image(image).map(|table| (offset, table))
+    Ok((offset, rest))
+}
+
+/// "the mask as four bytes, low first", and the rest.
+pub fn take_mask(input: &[u8]) -> Result<(Mask, &[u8]), Refusal> {
+    if input.len() < 4 {
+        return refuse(8);
+    }
+    let (head, rest) = input.split_at(4);
+    Ok(((number_of(&head[..2]) + 65_536 * number_of(&head[2..])) as Mask, rest))
+}
+
+/// "16, a mask bit at or above the event count is set".
+pub fn check_mask(mask: Mask, events: usize) -> Result<(), Refusal> {
+    if (events..32).any(|bit| counted(mask, bit) == 1) {
+        return refuse(16);
+    }
+    Ok(())
 }
 
 /// Reads an image in document 01's order: "row count cut short (8), 1, 12 for

@@ -1,8 +1,9 @@
-//! (c) Damaged images and random bytes (damage.rs): the product's text is the
-//! text of rules.rs and table.rs.
+//! (c) Damaged heads and images and random bytes (damage.rs): the product's text is
+//! the text of rules.rs and table.rs.
 //!
 //! Document 01: "The reader goes through the image in order, and the first rule
-//! broken gives the answer", and the table "Refused, and on what".
+//! broken gives the answer", and the table "Refused, and on what". Request 104: 16
+//! is judged "in `reduce` once the image is read".
 
 use independent::damage::{same, Answers, Inputs};
 use independent::product::reduce_text;
@@ -16,14 +17,28 @@ fn answer(input: &[u8]) -> Result<usize, String> {
 fn each_single_byte_changed() {
     let answers = Answers::default();
     Inputs::OfReduce.single_bytes(|input| answers.count(answer(input)));
-    answers.show("each single byte of 8 images set to each value", "listings");
+    answers.show("each single byte of 8 inputs set to each value", "listings");
 }
 
 #[test]
 fn each_truncation_and_extension() {
     let answers = Answers::default();
     Inputs::OfReduce.cut_and_extended(|input| answers.count(answer(input)));
-    answers.show("truncations and one-byte extensions of 8 images", "listings");
+    answers.show("truncations and one-byte extensions of 8 inputs", "listings");
+}
+
+#[test]
+fn masks_too_high() {
+    let answers = Answers::default();
+    Inputs::OfReduce.too_high_masks(|input| answers.count(answer(input)));
+    answers.show("masks with too high bits before 8 images, also damaged ones", "listings");
+}
+
+#[test]
+fn each_mask_bit() {
+    let answers = Answers::default();
+    Inputs::OfReduce.each_mask_bit(|input| answers.count(answer(input)));
+    answers.show("each bit of a mask with each number of events", "listings");
 }
 
 #[test]

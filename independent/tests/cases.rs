@@ -1,22 +1,28 @@
 //! (d) Document 01's own cases: every case of "Tables to try", and every row
 //! of "Refused, and on what" that `reduce` can show. The expected texts are
 //! written here by hand from the document, not made by rules.rs. So are the sheets
-//! of request 101, and the radio images and packs of request 102.
+//! of request 101, the radio images and packs of request 102, and the listings
+//! with idle events of request 104.
 
 use independent::calls::{compare, Call, Numbers, Outcome};
 use independent::product::{reduce_text, sheet_text, Product};
 use independent::radio::Answer;
 use independent::rules::{text_for, Length, Study};
 use independent::sheet;
-use independent::table::Table;
+use independent::table::{Mask, Table};
 
 /// Bytes from hexadecimal words.
 fn bytes(words: &str) -> Vec<u8> {
     words.split_whitespace().map(|word| u8::from_str_radix(word, 16).unwrap()).collect()
 }
 
+/// Offset 0, a mask of which event 0 counts, and an image in hexadecimal words.
+fn at_0(image: &str) -> Vec<u8> {
+    bytes(&format!("00 00  01 00 00 00  {image}"))
+}
+
 /// The product's text is the expected one; rules.rs's too. What `reduce` refuses
-/// of an image, `sheet` refuses of the image alone.
+/// of a mask and an image, `sheet` refuses of them without the offset.
 fn prints(input: &[u8], expected: &str) {
     let printed = reduce_text(input);
     assert_eq!(String::from_utf8_lossy(&printed), expected, "product, input {input:x?}");
@@ -27,10 +33,10 @@ fn prints(input: &[u8], expected: &str) {
 }
 
 /// The same for `sheet`.
-fn prints_sheet(image: &[u8], expected: &str) {
-    let printed = sheet_text(image);
-    assert_eq!(String::from_utf8_lossy(&printed), expected, "product, image {image:x?}");
-    assert_eq!(sheet::text_for(image), expected, "own reading, image {image:x?}");
+fn prints_sheet(input: &[u8], expected: &str) {
+    let printed = sheet_text(input);
+    assert_eq!(String::from_utf8_lossy(&printed), expected, "product, input {input:x?}");
+    assert_eq!(sheet::text_for(input), expected, "own reading, input {input:x?}");
 }
 
 const W: bool = false; // waiting
@@ -71,14 +77,16 @@ fn every_offset() -> impl Iterator<Item = Option<usize>> {
     (0..65_535).map(Some).chain([None])
 }
 
-/// "For A0 its input is, in hexadecimal, ..., and it prints: ..."
+/// "For A0 its input is, in hexadecimal, ..., and it prints: ..." And request 104:
+/// "`reduce` reads the mask as four bytes, low first, after the offset, and its
+/// first line ends with how many events count".
 #[test]
 fn a0() {
-    let input = bytes("00 00 03 00 01 03 00 01 00 02 00 02 00 01 00 00 00");
-    assert_eq!(a().input(Some(0)), input);
+    let input = bytes("00 00  01 00 00 00  03 00 01 03 00 01 00 02 00 02 00 01 00 00 00");
+    assert_eq!(a().input(Some(0), 1), input);
     prints(
         &input,
-        "table 2 1\n\
+        "table 2 1 1\n\
          0 1 ready\n\
          1 1 wait\n\
          folds 3\n\
@@ -91,20 +99,20 @@ fn a0() {
 /// "A1 offset 1: one waiting row. An no offset: the same."
 #[test]
 fn a1_and_an() {
-    let expected = "table 1 1\n\
+    let expected = "table 1 1 1\n\
                     0 0 wait\n\
                     folds 3\n\
                     0 folded 2 depth 0\n\
                     1 folded 2 depth 1\n\
                     2 kept 0 depth endless\n";
-    prints(&a().input(Some(1)), expected);
-    prints(&a().input(None), expected);
+    prints(&a().input(Some(1), 1), expected);
+    prints(&a().input(None, 1), expected);
     // No offset is 65,535.
-    assert_eq!(a().input(None)[..2], [255, 255]);
+    assert_eq!(a().input(None, 1)[..2], [255, 255]);
     for k in 1..20 {
-        prints(&a().input(Some(k)), expected);
+        prints(&a().input(Some(k), 1), expected);
     }
-    prints(&a().input(Some(65_534)), expected);
+    prints(&a().input(Some(65_534), 1), expected);
 }
 
 /// "Three rows remain at every offset and none."
@@ -112,8 +120,8 @@ fn a1_and_an() {
 fn case_b() {
     for offset in every_offset() {
         prints(
-            &b().input(offset),
-            "table 3 2\n\
+            &b().input(offset, 3),
+            "table 3 2 2\n\
              0 1 2 wait\n\
              1 0 0 ready\n\
              2 0 0 wait\n\
@@ -129,8 +137,8 @@ fn case_b() {
 #[test]
 fn c1() {
     prints(
-        &c().input(Some(1)),
-        "table 3 1\n\
+        &c().input(Some(1), 1),
+        "table 3 1 1\n\
          0 1 wait\n\
          1 2 ready\n\
          2 2 wait\n\
@@ -145,23 +153,23 @@ fn c1() {
 /// "C2 offset 2: one waiting row."
 #[test]
 fn c2() {
-    let expected = "table 1 1\n\
+    let expected = "table 1 1 1\n\
                     0 0 wait\n\
                     folds 4\n\
                     0 folded 3 depth 0\n\
                     1 folded 3 depth 1\n\
                     2 folded 3 depth 2\n\
                     3 kept 0 depth endless\n";
-    prints(&c().input(Some(2)), expected);
-    prints(&c().input(None), expected);
+    prints(&c().input(Some(2), 1), expected);
+    prints(&c().input(None, 1), expected);
 }
 
 /// "D0 offset 0: start folds into 2; rows (1 1) (2 0) (1 1), row 2 ready."
 #[test]
 fn d0() {
     prints(
-        &d().input(Some(0)),
-        "table 3 2\n\
+        &d().input(Some(0), 3),
+        "table 3 2 2\n\
          0 1 1 wait\n\
          1 2 0 wait\n\
          2 1 1 ready\n\
@@ -179,8 +187,8 @@ fn d0() {
 fn d1() {
     for offset in [Some(1), Some(2), Some(8), Some(65_534), None] {
         prints(
-            &d().input(offset),
-            "table 3 2\n\
+            &d().input(offset, 3),
+            "table 3 2 2\n\
              0 1 1 ready\n\
              1 0 2 wait\n\
              2 1 1 wait\n\
@@ -198,15 +206,15 @@ fn d1() {
 fn case_e() {
     for offset in every_offset() {
         prints(
-            &e(W).input(offset),
-            "table 1 2\n\
+            &e(W).input(offset, 3),
+            "table 1 2 2\n\
              0 0 0 wait\n\
              folds 1\n\
              0 kept 0 depth endless\n",
         );
         prints(
-            &e(R).input(offset),
-            "table 1 2\n\
+            &e(R).input(offset, 3),
+            "table 1 2 2\n\
              0 0 0 ready\n\
              folds 1\n\
              0 kept 0 depth endless\n",
@@ -219,8 +227,8 @@ fn case_e() {
 fn case_f() {
     for offset in every_offset() {
         prints(
-            &f().input(offset),
-            "table 1 1\n\
+            &f().input(offset, 1),
+            "table 1 1 1\n\
              0 0 wait\n\
              folds 2\n\
              0 kept 0 depth endless\n\
@@ -234,19 +242,412 @@ fn case_f() {
 /// at 1, since rows 2 and 3 are equal; D has three as in its cases above.
 #[test]
 fn sheets() {
-    prints_sheet(&a().image(), "sheet 3 1\n0 2\n1 1\n2 1\n3 1\n4 1\n5 1\n6 1\nnone 1\n");
-    prints_sheet(&b().image(), "sheet 3 2\n0 3\n1 3\n2 3\n3 3\n4 3\n5 3\n6 3\nnone 3\n");
+    prints_sheet(&a().sheet_input(1), "sheet 3 1 1\n0 2\n1 1\n2 1\n3 1\n4 1\n5 1\n6 1\nnone 1\n");
+    prints_sheet(&b().sheet_input(3), "sheet 3 2 2\n0 3\n1 3\n2 3\n3 3\n4 3\n5 3\n6 3\nnone 3\n");
     prints_sheet(
-        &c().image(),
-        "sheet 4 1\n0 3\n1 3\n2 1\n3 1\n4 1\n5 1\n6 1\n7 1\n8 1\nnone 1\n",
+        &c().sheet_input(1),
+        "sheet 4 1 1\n0 3\n1 3\n2 1\n3 1\n4 1\n5 1\n6 1\n7 1\n8 1\nnone 1\n",
     );
     prints_sheet(
-        &d().image(),
-        "sheet 4 2\n0 3\n1 3\n2 3\n3 3\n4 3\n5 3\n6 3\n7 3\n8 3\nnone 3\n",
+        &d().sheet_input(3),
+        "sheet 4 2 2\n0 3\n1 3\n2 3\n3 3\n4 3\n5 3\n6 3\n7 3\n8 3\nnone 3\n",
     );
-    prints_sheet(&e(W).image(), "sheet 1 2\n0 1\n1 1\n2 1\nnone 1\n");
-    prints_sheet(&e(R).image(), "sheet 1 2\n0 1\n1 1\n2 1\nnone 1\n");
-    prints_sheet(&f().image(), "sheet 2 1\n0 1\n1 1\n2 1\n3 1\n4 1\nnone 1\n");
+    prints_sheet(&e(W).sheet_input(3), "sheet 1 2 2\n0 1\n1 1\n2 1\nnone 1\n");
+    prints_sheet(&e(R).sheet_input(3), "sheet 1 2 2\n0 1\n1 1\n2 1\nnone 1\n");
+    prints_sheet(&f().sheet_input(1), "sheet 2 1 1\n0 1\n1 1\n2 1\n3 1\n4 1\nnone 1\n");
+}
+
+/// A under mask 0. Request 104: "With none counted, A at offset 1 gives one ready
+/// row." Every run has length 0, so every depth is 0. Row 0 differs from rows 1 and
+/// 2 after the empty run and after no run of length 1, so the distance is 1; rows 1
+/// and 2 agree on all runs. At equal depths the lower row comes first. So at offset
+/// 0 row 1 is kept, and row 2 folds into it; from offset 1 on and with none both
+/// fold into row 0.
+#[test]
+fn a_with_none_counted() {
+    prints(
+        &bytes("00 00  00 00 00 00  03 00 01 03 00 01 00 02 00 02 00 01 00 00 00"),
+        "table 2 1 0\n\
+         0 1 ready\n\
+         1 1 wait\n\
+         folds 3\n\
+         0 kept 0 depth 0\n\
+         1 kept 1 depth 0\n\
+         2 folded 1 depth 0\n",
+    );
+    let expected = "table 1 1 0\n\
+                    0 0 ready\n\
+                    folds 3\n\
+                    0 kept 0 depth 0\n\
+                    1 folded 0 depth 0\n\
+                    2 folded 0 depth 0\n";
+    prints(&bytes("01 00  00 00 00 00  03 00 01 03 00 01 00 02 00 02 00 01 00 00 00"), expected);
+    for offset in [Some(2), Some(6), Some(65_534), None] {
+        prints(&a().input(offset, 0), expected);
+    }
+    prints_sheet(&a().sheet_input(0), "sheet 3 1 0\n0 2\n1 1\n2 1\n3 1\n4 1\n5 1\n6 1\nnone 1\n");
+}
+
+/// D under mask 0: all depths are 0, so the order is 0 1 2 3. Rows 2 and 3 agree on
+/// all runs, any other two have distance 1. At offset 0 the new table is D0's; from
+/// offset 1 on all rows fold into row 0.
+#[test]
+fn d_with_none_counted() {
+    prints(
+        &d().input(Some(0), 0),
+        "table 3 2 0\n\
+         0 1 1 wait\n\
+         1 2 0 wait\n\
+         2 1 1 ready\n\
+         folds 4\n\
+         0 kept 1 depth 0\n\
+         1 kept 2 depth 0\n\
+         2 kept 0 depth 0\n\
+         3 folded 2 depth 0\n",
+    );
+    for offset in [Some(1), Some(8), None] {
+        prints(
+            &d().input(offset, 0),
+            "table 1 2 0\n\
+             0 0 0 wait\n\
+             folds 4\n\
+             0 kept 0 depth 0\n\
+             1 folded 0 depth 0\n\
+             2 folded 0 depth 0\n\
+             3 folded 0 depth 0\n",
+        );
+    }
+}
+
+/// B and D with one of their two events counted: from row 0 it leads to row 1 or 2
+/// and back, so all of B has endless depth and the distances are as with both. All
+/// lines but the first are those of the cases above.
+#[test]
+fn b_and_d_with_one_counted() {
+    for mask in [1, 2] {
+        for offset in [Some(0), Some(1), Some(6), None] {
+            prints(
+                &b().input(offset, mask),
+                "table 3 2 1\n\
+                 0 1 2 wait\n\
+                 1 0 0 ready\n\
+                 2 0 0 wait\n\
+                 folds 3\n\
+                 0 kept 0 depth endless\n\
+                 1 kept 1 depth endless\n\
+                 2 kept 2 depth endless\n",
+            );
+        }
+        prints(
+            &d().input(Some(1), mask),
+            "table 3 2 1\n\
+             0 1 1 ready\n\
+             1 0 2 wait\n\
+             2 1 1 wait\n\
+             folds 4\n\
+             0 kept 1 depth endless\n\
+             1 kept 0 depth endless\n\
+             2 kept 2 depth endless\n\
+             3 folded 1 depth 0\n",
+        );
+    }
+}
+
+/// E and F under mask 0: every run has length 0. An unreached row remains so.
+#[test]
+fn e_and_f_with_none_counted() {
+    for offset in [Some(0), Some(1), Some(4), None] {
+        prints(
+            &e(R).input(offset, 0),
+            "table 1 2 0\n\
+             0 0 0 ready\n\
+             folds 1\n\
+             0 kept 0 depth 0\n",
+        );
+        prints(
+            &f().input(offset, 0),
+            "table 1 1 0\n\
+             0 0 wait\n\
+             folds 2\n\
+             0 kept 0 depth 0\n\
+             1 unreached\n",
+        );
+    }
+}
+
+/// A with an event 1 that stays. If it is idle, all is as in A.
+#[test]
+fn a_with_an_event_that_stays() {
+    let given = Table::new(2, 0, &[1, 0, 2, 1, 2, 2], &[R, W, W]);
+    prints(
+        &given.input(Some(0), 1),
+        "table 2 2 1\n\
+         0 1 0 ready\n\
+         1 1 1 wait\n\
+         folds 3\n\
+         0 kept 0 depth 0\n\
+         1 folded 2 depth 1\n\
+         2 kept 1 depth endless\n",
+    );
+    prints(
+        &given.input(Some(1), 1),
+        "table 1 2 1\n\
+         0 0 0 wait\n\
+         folds 3\n\
+         0 folded 2 depth 0\n\
+         1 folded 2 depth 1\n\
+         2 kept 0 depth endless\n",
+    );
+    // If it counts, alone or with event 0, a run may stay on row 0 as long as one
+    // likes: every depth is endless, and so is row 0's distance from the others.
+    // These two agree; the lower one comes first.
+    for (mask, count) in [(2, 1), (3, 2)] {
+        for offset in [Some(0), Some(1), Some(6), None] {
+            prints(
+                &given.input(offset, mask),
+                &format!(
+                    "table 2 2 {count}\n\
+                     0 1 0 ready\n\
+                     1 1 1 wait\n\
+                     folds 3\n\
+                     0 kept 0 depth endless\n\
+                     1 kept 1 depth endless\n\
+                     2 folded 1 depth endless\n"
+                ),
+            );
+        }
+    }
+}
+
+/// Two circles: by event 1 from row 0 to row 1 and back, and from row 2 to row 3 and
+/// back; event 0 leads from the first circle to row 2, from the second to row 4,
+/// where all ends. Rows 0 and 3 are ready.
+fn circles() -> Table {
+    Table::new(2, 0, &[2, 1, 2, 0, 4, 3, 4, 2, 4, 4], &[R, W, W, R, W])
+}
+
+/// Its new table where all rows are kept; new numbers are met by all events: row 0,
+/// then rows 2 and 1, then rows 4 and 3.
+const ALL_OF_CIRCLES: &str = "0 1 2 ready\n\
+                              1 3 4 wait\n\
+                              2 1 0 wait\n\
+                              3 3 3 wait\n\
+                              4 3 1 ready\n\
+                              folds 5\n";
+
+/// Event 1 is idle: rows 0 and 1 have depth 0, rows 2 and 3 depth 1, row 4 endless.
+/// Rows 0 and 1 go the same way after one counted event, and so do any two of rows
+/// 2, 3 and 4: distance 1. Rows 0 and 1 have distance 2 from rows 2, 3 and 4, since
+/// after one counted event one stands on row 2, the other on row 4, and idle events
+/// lead to row 3 or remain there. The order is 4 2 3 0 1. At offset 0 nothing folds.
+/// At offset 1 row 1 folds into row 0 (1 + 0); rows 2 and 3 do not into row 4 (1 +
+/// 1), nor row 0 (2 + 0). At offset 2 all these fold.
+#[test]
+fn circles_with_event_1_idle() {
+    prints(
+        &circles().input(Some(0), 1),
+        &format!(
+            "table 5 2 1\n{ALL_OF_CIRCLES}\
+             0 kept 0 depth 0\n\
+             1 kept 2 depth 0\n\
+             2 kept 1 depth 1\n\
+             3 kept 4 depth 1\n\
+             4 kept 3 depth endless\n"
+        ),
+    );
+    prints(
+        &circles().input(Some(1), 1),
+        "table 4 2 1\n\
+         0 1 0 ready\n\
+         1 2 3 wait\n\
+         2 2 2 wait\n\
+         3 2 1 ready\n\
+         folds 5\n\
+         0 kept 0 depth 0\n\
+         1 folded 0 depth 0\n\
+         2 kept 1 depth 1\n\
+         3 kept 3 depth 1\n\
+         4 kept 2 depth endless\n",
+    );
+    for offset in [Some(2), Some(3), Some(10), None] {
+        prints(
+            &circles().input(offset, 1),
+            "table 1 2 1\n\
+             0 0 0 wait\n\
+             folds 5\n\
+             0 folded 4 depth 0\n\
+             1 folded 4 depth 0\n\
+             2 folded 4 depth 1\n\
+             3 folded 4 depth 1\n\
+             4 kept 0 depth endless\n",
+        );
+    }
+    prints_sheet(
+        &circles().sheet_input(1),
+        "sheet 5 2 1\n0 5\n1 4\n2 1\n3 1\n4 1\n5 1\n6 1\n7 1\n8 1\n9 1\n10 1\nnone 1\n",
+    );
+}
+
+/// If event 1 counts, alone or with event 0, the circles make every depth endless
+/// and every distance: nothing folds. If none counts, every depth is 0 and every
+/// distance 1: from offset 1 on all fold into row 0.
+#[test]
+fn circles_with_other_masks() {
+    for (mask, count) in [(2, 1), (3, 2)] {
+        for offset in [Some(0), Some(1), Some(10), None] {
+            prints(
+                &circles().input(offset, mask),
+                &format!(
+                    "table 5 2 {count}\n{ALL_OF_CIRCLES}\
+                     0 kept 0 depth endless\n\
+                     1 kept 2 depth endless\n\
+                     2 kept 1 depth endless\n\
+                     3 kept 4 depth endless\n\
+                     4 kept 3 depth endless\n"
+                ),
+            );
+        }
+    }
+    prints(
+        &circles().input(Some(0), 0),
+        &format!(
+            "table 5 2 0\n{ALL_OF_CIRCLES}\
+             0 kept 0 depth 0\n\
+             1 kept 2 depth 0\n\
+             2 kept 1 depth 0\n\
+             3 kept 4 depth 0\n\
+             4 kept 3 depth 0\n"
+        ),
+    );
+    prints(
+        &circles().input(Some(1), 0),
+        "table 1 2 0\n\
+         0 0 0 ready\n\
+         folds 5\n\
+         0 kept 0 depth 0\n\
+         1 folded 0 depth 0\n\
+         2 folded 0 depth 0\n\
+         3 folded 0 depth 0\n\
+         4 folded 0 depth 0\n",
+    );
+}
+
+/// A way from row 0 by the events 1 0 1 to row 3, the only ready one; all other
+/// events lead to row 4, where all ends.
+fn by_turns() -> Table {
+    Table::new(2, 0, &[4, 1, 2, 4, 4, 3, 4, 4, 4, 4], &[W, W, W, R, W])
+}
+
+/// Event 1 is idle: one counted event lies on the way. Rows 0 and 1 have depth 0,
+/// rows 2 and 3 depth 1. Any two of rows 2, 3 and 4 differ after no counted event at
+/// most: distance 1; rows 0 and 1 differ from each other and from those after one:
+/// distance 2. With the lower depth that is 2 for any two rows.
+#[test]
+fn idle_events_between_counted_ones() {
+    for offset in [Some(0), Some(1)] {
+        prints(
+            &by_turns().input(offset, 1),
+            "table 5 2 1\n\
+             0 1 2 wait\n\
+             1 1 1 wait\n\
+             2 3 1 wait\n\
+             3 1 4 wait\n\
+             4 1 1 ready\n\
+             folds 5\n\
+             0 kept 0 depth 0\n\
+             1 kept 2 depth 0\n\
+             2 kept 3 depth 1\n\
+             3 kept 4 depth 1\n\
+             4 kept 1 depth endless\n",
+        );
+    }
+    for offset in [Some(2), Some(3), None] {
+        prints(
+            &by_turns().input(offset, 1),
+            "table 1 2 1\n\
+             0 0 0 wait\n\
+             folds 5\n\
+             0 folded 4 depth 0\n\
+             1 folded 4 depth 0\n\
+             2 folded 4 depth 1\n\
+             3 folded 4 depth 1\n\
+             4 kept 0 depth endless\n",
+        );
+    }
+}
+
+/// The same way under each mask: distance and lower depth of any two rows together
+/// are one more than the counted events on the way, of which there are none, one
+/// (event 0), two (event 1) or three. (With none counted row 4's depth is 0 too.)
+#[test]
+fn sheets_of_a_way_by_turns() {
+    for (mask, count, all_fold) in [(0, 0, 1), (1, 1, 2), (2, 1, 3), (3, 2, 4)] {
+        let mut expected = format!("sheet 5 2 {count}\n");
+        for k in 0..=10 {
+            expected += &format!("{k} {}\n", if k < all_fold { 5 } else { 1 });
+        }
+        prints_sheet(&by_turns().sheet_input(mask), &(expected + "none 1\n"));
+    }
+}
+
+/// "bit e for event e": of 32 events one leads from row 0, which is ready, to row 1;
+/// all others stay. If it is the only one that counts, row 0 has depth 0 and
+/// distance 1 from row 1, and folds into it at offset 1. If another one is, a run may
+/// stay on row 0 as long as one likes.
+#[test]
+fn each_bit_is_for_its_event() {
+    for leads in 0..32 {
+        let mut targets = [[0; 32], [1; 32]].concat();
+        targets[leads] = 1;
+        let given = Table::new(32, 0, &targets, &[R, W]);
+        let row_0: String = targets[..32].iter().map(|target| format!(" {target}")).collect();
+        for counts in 0..32 {
+            let expected = if counts == leads {
+                format!(
+                    "table 1 32 1\n\
+                     0{} wait\n\
+                     folds 2\n\
+                     0 folded 1 depth 0\n\
+                     1 kept 0 depth endless\n",
+                    " 0".repeat(32)
+                )
+            } else {
+                format!(
+                    "table 2 32 1\n\
+                     0{row_0} ready\n\
+                     1{} wait\n\
+                     folds 2\n\
+                     0 kept 0 depth endless\n\
+                     1 kept 1 depth endless\n",
+                    " 1".repeat(32)
+                )
+            };
+            prints(&given.input(Some(1), 1 << counts), &expected);
+        }
+    }
+}
+
+/// "its first line ends with how many events count": 0 to 32 of 32 events, the lowest
+/// ones and the highest ones; all events stay, so with any counted the depth is
+/// endless.
+#[test]
+fn each_count_of_counted_events() {
+    let given = Table::new(32, 0, &[0; 32], &[R]);
+    let zeros = " 0".repeat(32);
+    for count in 0..=32 {
+        let lowest = ((1u64 << count) - 1) as Mask;
+        let depth = if count == 0 { "0" } else { "endless" };
+        for mask in [lowest, lowest.reverse_bits()] {
+            prints(
+                &given.input(Some(0), mask),
+                &format!("table 1 32 {count}\n0{zeros} ready\nfolds 1\n0 kept 0 depth {depth}\n"),
+            );
+            prints_sheet(
+                &given.sheet_input(mask),
+                &format!("sheet 1 32 {count}\n0 1\n1 1\n2 1\nnone 1\n"),
+            );
+        }
+    }
 }
 
 /// C with 128 rows: a line of rows, the last leading to itself, only row r
@@ -260,24 +661,29 @@ fn sheets_of_128_rows() {
     for ready in 0..127 {
         let mut marks = [W; 128];
         marks[ready] = R;
-        let mut expected = "sheet 128 1\n".to_string();
+        let mut expected = "sheet 128 1 1\n".to_string();
         for k in 0..=256 {
             expected += &format!("{k} {}\n", if k <= ready { ready + 2 } else { 1 });
         }
-        prints_sheet(&Table::new(1, 0, &targets, &marks).image(), &(expected + "none 1\n"));
+        let given = Table::new(1, 0, &targets, &marks);
+        prints_sheet(&given.sheet_input(1), &(expected + "none 1\n"));
     }
 }
 
-/// `sheet` reads no offset: an image of no byte has length 0, of one byte 1.
+/// `sheet` reads no offset: fewer than four bytes are no mask; behind the mask an
+/// image of no byte has length 0, of one byte 1.
 #[test]
 fn sheets_of_short_images() {
-    prints_sheet(&[], "refused 8 0\n");
-    for byte in 0..=255 {
-        prints_sheet(&[byte], "refused 8 1\n");
+    for length in 0..=4 {
+        prints_sheet(&vec![0; length], "refused 8 0\n");
+        prints_sheet(&vec![255; length], "refused 8 0\n");
     }
-    prints_sheet(&bytes("81 00"), "refused 12 0\n");
-    prints_sheet(&bytes("00 04"), "refused 12 0\n");
-    prints_sheet(&bytes("01 04"), "refused 1 0\n");
+    for byte in 0..=255 {
+        prints_sheet(&[0, 0, 0, 0, byte], "refused 8 1\n");
+    }
+    prints_sheet(&bytes("00 00 00 00  81 00"), "refused 12 0\n");
+    prints_sheet(&bytes("00 00 00 00  00 04"), "refused 12 0\n");
+    prints_sheet(&bytes("00 00 00 00  01 04"), "refused 1 0\n");
 }
 
 /// What the document says of B and D beside their listings (own reading only):
@@ -285,10 +691,10 @@ fn sheets_of_short_images() {
 /// 3 is similar to both 1 and 2, which are not similar to each other".
 #[test]
 fn said_of_b_and_d() {
-    let study = Study::of(&b());
+    let study = Study::of(&b(), 3);
     assert_eq!(study.distance(1, 2), Length::Of(1));
     assert_eq!(study.depth, [Some(Length::Endless); 3]);
-    let study = Study::of(&d());
+    let study = Study::of(&d(), 3);
     assert!(study.similar(3, 1, Some(1)) && study.similar(3, 2, Some(1)));
     assert!(!study.similar(1, 2, Some(1)));
 }
@@ -299,16 +705,16 @@ fn said_of_b_and_d() {
 fn edge_of_128_rows() {
     let targets: Vec<usize> = (0..128).map(|row: usize| (row + 1).min(127)).collect();
     let table = Table::new(1, 0, &targets, &[W; 128]);
-    let mut expected = "table 1 1\n0 0 wait\nfolds 128\n".to_string();
+    let mut expected = "table 1 1 1\n0 0 wait\nfolds 128\n".to_string();
     for row in 0..127 {
         expected += &format!("{row} folded 127 depth {row}\n");
     }
     expected += "127 kept 0 depth endless\n";
-    prints(&table.input(Some(0)), &expected);
-    prints(&table.input(None), &expected);
+    prints(&table.input(Some(0), 1), &expected);
+    prints(&table.input(None, 1), &expected);
     let targets: Vec<usize> = (0..129).map(|row: usize| (row + 1).min(128)).collect();
     let table = Table::new(1, 0, &targets, &[W; 129]);
-    prints(&table.input(Some(0)), "refused 12 0\n");
+    prints(&table.input(Some(0), 1), "refused 12 0\n");
 }
 
 /// 128 rows in one round, one of them ready: nothing can be saved. The rows are
@@ -319,7 +725,7 @@ fn edge_of_128_kept_rows() {
     let mut marks = [W; 128];
     marks[0] = R;
     let table = Table::new(1, 0, &targets, &marks);
-    let mut expected = "table 128 1\n0 1 ready\n".to_string();
+    let mut expected = "table 128 1 1\n0 1 ready\n".to_string();
     for row in 1..128 {
         expected += &format!("{row} {} wait\n", (row + 1) % 128);
     }
@@ -328,7 +734,7 @@ fn edge_of_128_kept_rows() {
         expected += &format!("{row} kept {} depth endless\n", 128 - row);
     }
     for offset in [Some(0), Some(1), Some(255), Some(256), Some(65_534), None] {
-        prints(&table.input(offset), &expected);
+        prints(&table.input(offset, 1), &expected);
     }
 }
 
@@ -338,16 +744,15 @@ fn edge_of_128_kept_rows() {
 fn edge_of_1024_rows() {
     let targets: Vec<usize> = (0..1024).collect();
     let table = Table::new(1, 0, &targets, &[W; 1024]);
-    prints(&table.input(Some(0)), "refused 12 0\n");
-    prints(&bytes("00 00 00 04"), "refused 12 0\n");
-    prints(&bytes("00 00 01 04"), "refused 1 0\n");
-    let mut image = vec![0, 0];
-    image.extend([0x01, 0x04]); // 1,025 rows
-    image.extend(vec![0; 129]);
-    image.extend([0x01, 0x04]);
-    image.extend(vec![0; 2 * 1025]);
-    image.extend([1, 0, 0, 0]);
-    prints(&image, "refused 1 0\n");
+    prints(&table.input(Some(0), 1), "refused 12 0\n");
+    prints(&at_0("00 04"), "refused 12 0\n");
+    let mut input = at_0("01 04"); // 1,025 rows
+    prints(&input, "refused 1 0\n");
+    input.extend(vec![0; 129]);
+    input.extend([0x01, 0x04]);
+    input.extend(vec![0; 2 * 1025]);
+    input.extend([1, 0, 0, 0]);
+    prints(&input, "refused 1 0\n");
 }
 
 /// "32 events pass, 33 give 2".
@@ -356,92 +761,90 @@ fn edge_of_32_events() {
     let table = Table::new(32, 0, &[0; 32], &[R]);
     let zeros = " 0".repeat(32);
     prints(
-        &table.input(Some(0)),
-        &format!("table 1 32\n0{zeros} ready\nfolds 1\n0 kept 0 depth endless\n"),
+        &table.input(Some(0), 0xffff_ffff),
+        &format!("table 1 32 32\n0{zeros} ready\nfolds 1\n0 kept 0 depth endless\n"),
     );
     // One row, 33 targets.
-    let mut input = bytes("00 00 01 00 00 21 00");
+    let mut input = at_0("01 00 00 21 00");
     input.extend(vec![0; 66]);
     input.extend([1, 0, 0, 0]);
     prints(&input, "refused 2 0\n");
     // 128 rows and 32 events, all targets 0: rows 1 to 127 are unreached.
     let table = Table::new(32, 0, &[0; 128 * 32], &[W; 128]);
-    let mut expected = format!("table 1 32\n0{zeros} wait\nfolds 128\n0 kept 0 depth endless\n");
+    let mut expected =
+        format!("table 1 32 32\n0{zeros} wait\nfolds 128\n0 kept 0 depth endless\n");
     for row in 1..128 {
         expected += &format!("{row} unreached\n");
     }
-    prints(&table.input(None), &expected);
+    prints(&table.input(None, 0xffff_ffff), &expected);
 }
 
 /// No. 1: "rows are 0 or above 1,024", example "rows 0".
 #[test]
 fn refusal_1() {
-    prints(&bytes("00 00 00 00"), "refused 1 0\n");
-    prints(&bytes("00 00 00 00 00 00 01 00 00 00"), "refused 1 0\n");
-    prints(&bytes("ff ff ff ff"), "refused 1 0\n");
+    prints(&at_0("00 00"), "refused 1 0\n");
+    prints(&at_0("00 00 00 00 01 00 00 00"), "refused 1 0\n");
+    prints(&bytes("ff ff  ff ff ff ff  ff ff"), "refused 1 0\n");
 }
 
 /// No. 2: "events are 0 or above 32", example "rows 1, events 33". A target
 /// count of 0 is a multiple of the rows, so it gives 2 and not 9.
 #[test]
 fn refusal_2() {
-    let mut input = bytes("00 00 01 00 00 21 00");
+    let mut input = at_0("01 00 00 21 00");
     prints(&input, "refused 2 0\n"); // 2 comes before "targets cut short (8)"
     input.extend(vec![0; 66]);
     input.extend([1, 0, 0, 0]);
     prints(&input, "refused 2 0\n");
-    prints(&bytes("00 00 02 00 00 00 00 01 00 00 00"), "refused 2 0\n");
+    prints(&at_0("02 00 00 00 00 01 00 00 00"), "refused 2 0\n");
 }
 
 /// No. 4: "the start ... is no row", example "rows 2, start 2".
 #[test]
 fn refusal_4() {
-    prints(&bytes("00 00 02 00 00 02 00 00 00 01 00 01 00 02 00"), "refused 4 0\n");
-    prints(&bytes("00 00 02 00 00 02 00 00 00 01 00 01 00 01 01"), "refused 4 0\n");
+    prints(&at_0("02 00 00 02 00 00 00 01 00 01 00 02 00"), "refused 4 0\n");
+    prints(&at_0("02 00 00 02 00 00 00 01 00 01 00 01 01"), "refused 4 0\n");
 }
 
 /// No. 5: "a target is no row; place: first such cell", example "rows 2, cells
 /// 1 2: place 1".
 #[test]
 fn refusal_5() {
-    prints(&bytes("00 00 02 00 00 02 00 01 00 02 00 01 00 00 00"), "refused 5 1\n");
-    prints(&bytes("00 00 02 00 00 02 00 02 00 02 00 01 00 00 00"), "refused 5 0\n");
+    prints(&at_0("02 00 00 02 00 01 00 02 00 01 00 00 00"), "refused 5 1\n");
+    prints(&at_0("02 00 00 02 00 02 00 02 00 01 00 00 00"), "refused 5 0\n");
     // Two events: the cells of row 1 are 2 and 3.
-    prints(
-        &bytes("00 00 02 00 00 04 00 00 00 01 00 01 00 00 01 01 00 00 00"),
-        "refused 5 3\n",
-    );
+    prints(&at_0("02 00 00 04 00 00 00 01 00 01 00 00 01 01 00 00 00"), "refused 5 3\n");
 }
 
 /// No. 6: "a spare mark bit is set", example "rows 2, mark byte 4".
 #[test]
 fn refusal_6() {
-    prints(&bytes("00 00 02 00 04 02 00 00 00 01 00 01 00 00 00"), "refused 6 0\n");
-    prints(&bytes("00 00 02 00 80 02 00 00 00 01 00 01 00 00 00"), "refused 6 0\n");
+    prints(&at_0("02 00 04 02 00 00 00 01 00 01 00 00 00"), "refused 6 0\n");
+    prints(&at_0("02 00 80 02 00 00 00 01 00 01 00 00 00"), "refused 6 0\n");
     // Nine rows: the spare bits are in the second byte.
     let tail = " 09 00 00 00 00 00 00 00 00 00 00 00 00 00 00 00 00 00 00 00 01 00 00 00";
-    prints(&bytes(&format!("00 00 09 00 ff 02{tail}")), "refused 6 0\n");
-    let mut expected = "table 1 1\n0 0 ready\nfolds 9\n0 kept 0 depth endless\n".to_string();
+    prints(&at_0(&format!("09 00 ff 02{tail}")), "refused 6 0\n");
+    let mut expected = "table 1 1 1\n0 0 ready\nfolds 9\n0 kept 0 depth endless\n".to_string();
     for row in 1..9 {
         expected += &format!("{row} unreached\n");
     }
-    prints(&bytes(&format!("00 00 09 00 ff 01{tail}")), &expected);
+    prints(&at_0(&format!("09 00 ff 01{tail}")), &expected);
 }
 
 /// No. 8: "an image ends early; place: its length", example "image of one byte:
-/// place 1"; and "Fewer than two bytes give 8 with place 0".
+/// place 1"; and "Fewer than six bytes before the image give 8, place 0".
 #[test]
 fn refusal_8() {
-    prints(&bytes("00 00 03"), "refused 8 1\n");
-    prints(&bytes(""), "refused 8 0\n");
-    prints(&bytes("00"), "refused 8 0\n");
-    prints(&bytes("ff"), "refused 8 0\n");
-    prints(&bytes("00 00"), "refused 8 0\n");
-    // Case A0 cut at every length: the image's length is two less than the
+    prints(&at_0("03"), "refused 8 1\n");
+    for length in 0..6 {
+        prints(&vec![0; length], "refused 8 0\n");
+        prints(&vec![255; length], "refused 8 0\n");
+    }
+    // Case A0 cut at every length: the image's length is six less than the
     // input's.
-    let whole = bytes("00 00 03 00 01 03 00 01 00 02 00 02 00 01 00 00 00");
-    for length in 2..whole.len() {
-        prints(&whole[..length], &format!("refused 8 {}\n", length - 2));
+    let whole = at_0("03 00 01 03 00 01 00 02 00 02 00 01 00 00 00");
+    for length in 0..whole.len() {
+        prints(&whole[..length], &format!("refused 8 {}\n", length.saturating_sub(6)));
     }
 }
 
@@ -449,14 +852,11 @@ fn refusal_8() {
 /// "rows 2, target count 3".
 #[test]
 fn refusal_9() {
-    prints(
-        &bytes("00 00 02 00 00 03 00 00 00 00 00 00 00 01 00 00 00"),
-        "refused 9 0\n",
-    );
-    prints(&bytes("00 00 02 00 00 03 00"), "refused 9 0\n");
-    prints(&bytes("00 00 02 00 00 02 00 00 00 01 00 00 00 00 00"), "refused 9 0\n");
-    prints(&bytes("00 00 02 00 00 02 00 00 00 01 00 02 00 00 00"), "refused 9 0\n");
-    prints(&bytes("00 00 02 00 00 02 00 00 00 01 00 01 01 00 00"), "refused 9 0\n");
+    prints(&at_0("02 00 00 03 00 00 00 00 00 00 00 01 00 00 00"), "refused 9 0\n");
+    prints(&at_0("02 00 00 03 00"), "refused 9 0\n");
+    prints(&at_0("02 00 00 02 00 00 00 01 00 00 00 00 00"), "refused 9 0\n");
+    prints(&at_0("02 00 00 02 00 00 00 01 00 02 00 00 00"), "refused 9 0\n");
+    prints(&at_0("02 00 00 02 00 00 00 01 00 01 01 00 00"), "refused 9 0\n");
 }
 
 /// No. 10: "bytes follow the last section", example "a sound image and one byte
@@ -464,7 +864,7 @@ fn refusal_9() {
 #[test]
 fn refusal_10() {
     for more in 0..=255u8 {
-        let mut input = bytes("00 00 03 00 01 03 00 01 00 02 00 02 00 01 00 00 00");
+        let mut input = at_0("03 00 01 03 00 01 00 02 00 02 00 01 00 00 00");
         input.push(more);
         prints(&input, "refused 10 0\n");
     }
@@ -473,48 +873,95 @@ fn refusal_10() {
 /// No. 12: "`reduce` only: rows above 128", example "rows 129".
 #[test]
 fn refusal_12() {
-    prints(&bytes("00 00 81 00"), "refused 12 0\n");
-    prints(&bytes("00 00 80 00"), "refused 8 2\n"); // 128 rows: marks cut short
-    for rows in 129..=1024usize {
-        prints(&[0, 0, (rows % 256) as u8, (rows / 256) as u8], "refused 12 0\n");
+    prints(&at_0("81 00"), "refused 12 0\n");
+    prints(&at_0("80 00"), "refused 8 2\n"); // 128 rows: marks cut short
+    for rows in 129..=65_535u16 {
+        let input = [&at_0("")[..], &rows.to_le_bytes()].concat();
+        prints(&input, if rows <= 1024 { "refused 12 0\n" } else { "refused 1 0\n" });
     }
-    for rows in 1025..=65_535usize {
-        prints(&[0, 0, (rows % 256) as u8, (rows / 256) as u8], "refused 1 0\n");
+}
+
+/// No. 16: "a mask bit at or above the event count is set ... in `reduce` once the
+/// image is read". A has one event, B two; the image of one row and nine events has
+/// bits 0 to 8, the last of them in the mask's second byte.
+#[test]
+fn refusal_16() {
+    for mask in [2, 3, 1 << 8, 1 << 16, 1 << 24, 1 << 31, 0xffff_fffe, 0xffff_ffff] {
+        prints(&a().input(Some(0), mask), "refused 16 0\n");
+        prints(&a().input(None, mask), "refused 16 0\n");
+    }
+    for mask in [4, 5, 6, 7, 1 << 31 | 3] {
+        prints(&b().input(Some(0), mask), "refused 16 0\n");
+    }
+    let image = format!("01 00 00  09 00 {} 01 00 00 00", "00 ".repeat(18));
+    let input = |mask: &str| bytes(&format!("00 00  {mask}  {image}"));
+    for mask in ["00 02 00 00", "ff ff 00 00", "00 00 01 00", "00 00 00 01", "01 00 00 80"] {
+        prints(&input(mask), "refused 16 0\n");
+    }
+    for (mask, count) in
+        [("01 00 00 00", 1), ("00 01 00 00", 1), ("ff 00 00 00", 8), ("ff 01 00 00", 9)]
+    {
+        let zeros = " 0".repeat(9);
+        let expected =
+            format!("table 1 9 {count}\n0{zeros} wait\nfolds 1\n0 kept 0 depth endless\n");
+        prints(&input(mask), &expected);
+    }
+}
+
+/// Each number of events: the highest bit of the mask is taken, the one above it is
+/// refused; with 32 events there is none above.
+#[test]
+fn refusal_16_at_each_number_of_events() {
+    for events in 1..=32usize {
+        let given = Table::new(events, 0, &vec![0; events], &[W]);
+        let line = format!("0{} wait\nfolds 1\n0 kept 0 depth endless\n", " 0".repeat(events));
+        let highest: Mask = 1 << (events - 1);
+        prints(&given.input(Some(0), highest), &format!("table 1 {events} 1\n{line}"));
+        if events < 32 {
+            prints(&given.input(Some(0), 2 * highest), "refused 16 0\n");
+            prints(&given.input(Some(0), 3 * highest), "refused 16 0\n");
+        }
     }
 }
 
 /// "the first rule broken gives the answer": two faults in one image, the
-/// earlier one answers. Each line: what is wrong, the input, the answer.
+/// earlier one answers; and 16 only comes "once the image is read". Each line: what
+/// is wrong, the image, the answer.
 #[test]
 fn first_rule_broken() {
     let list = [
-        ("1 before all", "00 00 00 00 ff ff ff", "1 0"),
-        ("12 before marks cut short", "00 00 81 00 ff", "12 0"),
-        ("marks cut short before 6", "00 00 09 00 ff", "8 3"),
-        ("6 before target count cut short", "00 00 02 00 ff", "6 0"),
-        ("6 before 9", "00 00 02 00 ff 03 00", "6 0"),
-        ("target count cut short", "00 00 02 00 03 03", "8 4"),
-        ("9 before targets cut short", "00 00 02 00 03 03 00", "9 0"),
-        ("9 before 2: count 67 of 2 rows", "00 00 02 00 03 43 00", "9 0"),
-        ("2 before targets cut short", "00 00 02 00 03 42 00", "2 0"),
-        ("2 for count 0", "00 00 02 00 03 00 00", "2 0"),
-        ("targets cut short before 5", "00 00 02 00 03 02 00 ff ff 00", "8 8"),
-        ("5 before start count cut short", "00 00 02 00 03 02 00 00 00 ff ff", "5 1"),
-        ("5 before 9", "00 00 02 00 03 02 00 00 00 02 00 07 00", "5 1"),
-        ("start count cut short", "00 00 02 00 03 02 00 00 00 01 00 07", "8 10"),
-        ("9 before start cut short", "00 00 02 00 03 02 00 00 00 01 00 07 00", "9 0"),
-        ("9 before 4", "00 00 02 00 03 02 00 00 00 01 00 02 00 02 00", "9 0"),
-        ("start cut short before 4", "00 00 02 00 03 02 00 00 00 01 00 01 00 ff", "8 12"),
-        ("4 before 10", "00 00 02 00 03 02 00 00 00 01 00 01 00 02 00 00", "4 0"),
-        ("10 alone", "00 00 02 00 03 02 00 00 00 01 00 01 00 01 00 00", "10 0"),
+        ("1 before all", "00 00 ff ff ff", "1 0"),
+        ("12 before marks cut short", "81 00 ff", "12 0"),
+        ("marks cut short before 6", "09 00 ff", "8 3"),
+        ("6 before target count cut short", "02 00 ff", "6 0"),
+        ("6 before 9", "02 00 ff 03 00", "6 0"),
+        ("target count cut short", "02 00 03 03", "8 4"),
+        ("9 before targets cut short", "02 00 03 03 00", "9 0"),
+        ("9 before 2: count 67 of 2 rows", "02 00 03 43 00", "9 0"),
+        ("2 before targets cut short", "02 00 03 42 00", "2 0"),
+        ("2 for count 0", "02 00 03 00 00", "2 0"),
+        ("targets cut short before 5", "02 00 03 02 00 ff ff 00", "8 8"),
+        ("5 before start count cut short", "02 00 03 02 00 00 00 ff ff", "5 1"),
+        ("5 before 9", "02 00 03 02 00 00 00 02 00 07 00", "5 1"),
+        ("start count cut short", "02 00 03 02 00 00 00 01 00 07", "8 10"),
+        ("9 before start cut short", "02 00 03 02 00 00 00 01 00 07 00", "9 0"),
+        ("9 before 4", "02 00 03 02 00 00 00 01 00 02 00 02 00", "9 0"),
+        ("start cut short before 4", "02 00 03 02 00 00 00 01 00 01 00 ff", "8 12"),
+        ("4 before 10", "02 00 03 02 00 00 00 01 00 01 00 02 00 00", "4 0"),
+        ("10 alone", "02 00 03 02 00 00 00 01 00 01 00 01 00 00", "10 0"),
     ];
-    for (what, input, answer) in list {
-        let input = bytes(input);
-        let printed = String::from_utf8_lossy(&reduce_text(&input)).to_string();
-        assert_eq!(printed, format!("refused {answer}\n"), "{what}");
-        prints(&input, &format!("refused {answer}\n"));
+    // No image here has more than one event: the last three masks are too high.
+    let masks = ["00 00 00 00", "01 00 00 00", "02 00 00 00", "00 00 00 80", "ff ff ff ff"];
+    for (what, image, answer) in list {
+        let expected = format!("refused {answer}\n");
+        for mask in masks {
+            let input = bytes(&format!("00 00 {mask} {image}"));
+            let printed = String::from_utf8_lossy(&reduce_text(&input)).to_string();
+            assert_eq!(printed, expected, "{what}, mask {mask}");
+            prints(&input, &expected);
+        }
     }
-    println!("product: {} images with two faults", list.len());
+    println!("product: {} images with two faults, behind {} masks", list.len(), masks.len());
 }
 
 /// The product does in a call what radio.rs does; and this is the answer.

@@ -1,6 +1,6 @@
-//! (b) Many random larger tables of all the shapes of shapes.rs: tables of 4
-//! and 5 rows against the brute-force cutter, and tables of up to 128 rows and
-//! 32 events against rules.rs and judge.rs.
+//! (b) Many random larger tables of all the shapes of shapes.rs, each with a
+//! random mask: tables of 4 and 5 rows against the brute-force cutter, and tables
+//! of up to 128 rows and 32 events against rules.rs and judge.rs.
 
 use independent::cutter::Cutter;
 use independent::judge::{all_offsets, judge, read_listing, stop};
@@ -8,27 +8,28 @@ use independent::parallel::{spread, Counter};
 use independent::product::reduce_text;
 use independent::random::Random;
 use independent::rules::{Fate, Length, Study};
-use independent::shapes::{table, SHAPES};
-use independent::table::{Offset, Table};
+use independent::shapes::{with_mask, SHAPES};
+use independent::table::{Mask, Offset, Table};
 
-/// Checks one table at the offsets; answers how often a row folded into an
-/// unequal one.
-fn check(given: &Table, offsets: &[Offset], cutter: Option<&Cutter>) -> usize {
-    let study = Study::of(given);
-    let least = cutter.map(|cutter| cutter.least(given, offsets));
+/// Checks one table and mask at the offsets; answers how often a row folded into
+/// an unequal one.
+fn check(given: &Table, mask: Mask, offsets: &[Offset], cutter: Option<&Cutter>) -> usize {
+    let study = Study::of(given, mask);
+    let least = cutter.map(|cutter| cutter.least(given, mask, offsets));
     let mut unequal = 0;
     for (place, &offset) in offsets.iter().enumerate() {
-        let printed = reduce_text(&given.input(offset));
+        let printed = reduce_text(&given.input(offset, mask));
         let expected = study.text(offset);
+        let stop = |what: &str| stop(what, given, mask, offset, &printed, &expected);
         if printed != expected.as_bytes() {
-            stop("the text is another", given, offset, &printed, &expected);
+            stop("the text is another");
         }
-        let rows = match judge(given, offset, &printed) {
+        let rows = match judge(given, mask, offset, &printed) {
             Ok(rows) => rows,
-            Err(what) => stop(&what, given, offset, &printed, &expected),
+            Err(what) => stop(&what),
         };
         if least.as_ref().is_some_and(|least| least[place] != rows) {
-            stop("the cutter finds fewer rows", given, offset, &printed, &expected);
+            stop("the cutter finds fewer rows");
         }
         let listing = read_listing(&printed).unwrap();
         for (row, fate) in listing.fates.iter().enumerate() {
@@ -50,8 +51,8 @@ fn four_and_five_rows_against_the_cutter() {
         spread(pieces, |piece| {
             let mut random = Random::new(20_000 + piece as u64);
             for shape in SHAPES {
-                let given = table(&mut random, shape, rows, events);
-                unequal.add(check(&given, &offsets, Some(&cutter)));
+                let (given, mask) = with_mask(&mut random, shape, rows, events);
+                unequal.add(check(&given, mask, &offsets, Some(&cutter)));
                 tried.add(1);
             }
         });
@@ -69,8 +70,8 @@ fn four_and_five_rows_against_the_cutter() {
 /// Offsets worth trying for a table: the ends, twice the rows and about, and
 /// for some pairs of rows the very offset at which they become similar, and the
 /// one before it.
-fn offsets_for(random: &mut Random, given: &Table, wanted: usize) -> Vec<Offset> {
-    let study = Study::of(given);
+fn offsets_for(random: &mut Random, given: &Table, mask: Mask, wanted: usize) -> Vec<Offset> {
+    let study = Study::of(given, mask);
     let rows = given.rows;
     let mut turns: Vec<usize> = Vec::new();
     for one in 0..rows {
@@ -121,9 +122,9 @@ fn up_to_128_rows_and_32_events() {
                 let rows = random.between(low, high);
                 let events =
                     if name == "the largest" { most } else { random.between(1, most) };
-                let given = table(&mut random, shape, rows, events);
-                let offsets = offsets_for(&mut random, &given, wanted);
-                unequal.add(check(&given, &offsets, None));
+                let (given, mask) = with_mask(&mut random, shape, rows, events);
+                let offsets = offsets_for(&mut random, &given, mask, wanted);
+                unequal.add(check(&given, mask, &offsets, None));
                 tried.add(1);
             }
         });
@@ -148,11 +149,11 @@ fn twice_the_rows_is_as_none() {
         for shape in SHAPES {
             let rows = random.between(1, 40);
             let events = random.between(1, 4);
-            let given = table(&mut random, shape, rows, events);
-            let none = reduce_text(&given.input(None));
+            let (given, mask) = with_mask(&mut random, shape, rows, events);
+            let none = reduce_text(&given.input(None, mask));
             for k in [2 * rows, 2 * rows + 1, 3 * rows + 7, 1000, 32_767, 32_768, 65_534] {
-                if reduce_text(&given.input(Some(k))) != none {
-                    stop("not as with none", &given, Some(k), &none, "");
+                if reduce_text(&given.input(Some(k), mask)) != none {
+                    stop("not as with none", &given, mask, Some(k), &none, "");
                 }
             }
             tried.add(1);

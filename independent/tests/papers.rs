@@ -4,7 +4,8 @@
 //! automata"; paper 004 is "On minimising automata with errors". Their states
 //! are rows here, letters are events, accepting is ready, hyper-minimized means
 //! with no offset, k-minimal means at offset k, minimized means at offset 0;
-//! preamble states have a finite depth, kernel states an endless one.
+//! preamble states have a finite depth, kernel states an endless one. Every event
+//! counts.
 //!
 //! Not stated here: figures 1 to 4 of paper 003 and figures 1 to 5 of paper 004
 //! (the text at hand has their captions only), and definition 15 of paper 004
@@ -17,25 +18,28 @@ use independent::product::reduce_text;
 use independent::random::Random;
 use independent::rules::{Length, Study};
 use independent::shapes::{renumbered, table, SHAPES};
-use independent::table::{Offset, Table};
+use independent::table::{every_event, Offset, Table};
 use std::collections::HashMap;
 
 /// Asks the product, compares with rules.rs, judges, and answers the rows.
 fn rows_at(given: &Table, offset: Offset) -> usize {
-    let printed = reduce_text(&given.input(offset));
-    let expected = Study::of(given).text(offset);
+    let mask = every_event(given.events);
+    let printed = reduce_text(&given.input(offset, mask));
+    let expected = Study::of(given, mask).text(offset);
+    let stop = |what: &str| stop(what, given, mask, offset, &printed, &expected);
     if printed != expected.as_bytes() {
-        stop("the text is another", given, offset, &printed, &expected);
+        stop("the text is another");
     }
-    match judge(given, offset, &printed) {
+    match judge(given, mask, offset, &printed) {
         Ok(rows) => rows,
-        Err(what) => stop(&what, given, offset, &printed, &expected),
+        Err(what) => stop(&what),
     }
 }
 
 /// The lines of the printed text before "folds".
 fn table_lines(given: &Table, offset: Offset) -> String {
-    let text = String::from_utf8(reduce_text(&given.input(offset))).unwrap();
+    let input = given.input(offset, every_event(given.events));
+    let text = String::from_utf8(reduce_text(&input)).unwrap();
     text[..text.find("folds").unwrap()].to_string()
 }
 
@@ -74,7 +78,7 @@ fn theorem_3_13_of_003() {
             assert_eq!(rows_at(&given, offset), expected, "m {m}, n {n}, offset {offset:?}");
         }
         let ready = if m < n { (s + m - 1) % m } else { 0 };
-        let mut lines = format!("table {m} 1\n");
+        let mut lines = format!("table {m} 1 1\n");
         for row in 0..m {
             let mark = if row == ready { "ready" } else { "wait" };
             lines += &format!("{row} {} {mark}\n", (row + 1) % m);
@@ -83,7 +87,7 @@ fn theorem_3_13_of_003() {
         if n <= 5 {
             let cutter = Cutter::new(n, 1);
             let offsets = all_offsets(n);
-            for (place, least) in cutter.least(&given, &offsets).into_iter().enumerate() {
+            for (place, least) in cutter.least(&given, 1, &offsets).into_iter().enumerate() {
                 assert_eq!(least, if offsets[place].is_none_or(|k| k >= s) { m } else { n });
             }
         }
@@ -116,7 +120,7 @@ fn theorem_3_12_of_003() {
             let period = (1..=l)
                 .find(|&p| l % p == 0 && (0..l).all(|i| in_loop(i) == in_loop(i + p)))
                 .unwrap();
-            let mut lines = format!("table {period} 1\n");
+            let mut lines = format!("table {period} 1 1\n");
             for row in 0..period {
                 let mark = if in_loop(row) { "ready" } else { "wait" };
                 lines += &format!("{row} {} {mark}\n", (row + 1) % period);
@@ -141,7 +145,7 @@ fn remark_3_10_of_003_unary() {
             assert_eq!(rows_at(given, offset), 2);
         }
     }
-    assert!(!agree(&even, &odd, None));
+    assert!(!agree(&even, &odd, 1, None));
     println!("product: remark 3.10: 2 unary automata");
 }
 
@@ -164,9 +168,9 @@ fn remark_3_10_of_003_binary() {
         for &offset in &offsets {
             assert_eq!(rows_at(given, offset), 4);
         }
-        assert!(cutter.least(given, &offsets).iter().all(|&least| least == 4));
+        assert!(cutter.least(given, 3, &offsets).iter().all(|&least| least == 4));
     }
-    assert!(!agree(&even, &odd, None));
+    assert!(!agree(&even, &odd, 3, None));
     println!("product: remark 3.10: 2 binary automata");
 }
 
@@ -183,7 +187,7 @@ fn kind_of_figure_4_of_003() {
     for offset in all_offsets(3) {
         assert_eq!(rows_at(&one, offset), 3);
         assert_eq!(rows_at(&two, offset), 3);
-        assert_eq!(agree(&one, &two, offset), offset != Some(0));
+        assert_eq!(agree(&one, &two, 3, offset), offset != Some(0));
     }
     // Not the same printed table: begun at a ready row and at a waiting one.
     assert_ne!(table_lines(&one, None), table_lines(&two, None));
@@ -229,7 +233,7 @@ fn finite_and_cofinite_languages_of_003() {
             let mark = if turned { "ready" } else { "wait" };
             for offset in [None, Some(longest + 1), Some(longest + 2)] {
                 assert_eq!(rows_at(&given, offset), 1);
-                let lines = format!("table 1 {events}\n0{zeros} {mark}\n");
+                let lines = format!("table 1 {events} {events}\n0{zeros} {mark}\n");
                 assert_eq!(table_lines(&given, offset), lines);
             }
             for k in 0..=longest {
@@ -426,7 +430,7 @@ fn formula_1_of_004() {
             let rows = random.between(1, 20);
             let events = random.between(1, 4);
             let given = table(&mut random, shape, rows, events);
-            let study = Study::of(&given);
+            let study = Study::of(&given, every_event(events));
             for one in 0..rows {
                 assert_eq!(study.distance(one, one), Length::Of(0));
                 for other in 0..rows {
@@ -556,11 +560,12 @@ impl Section4 {
 
 /// On how many runs two tables differ that differ on finitely many only.
 fn errors(one: &Table, other: &Table) -> u128 {
-    assert!(agree_large(one, other, None));
+    let mask = every_event(one.events);
+    assert!(agree_large(one, other, mask, None));
     let mut runs: HashMap<(usize, usize), u128> = HashMap::from([((one.start, other.start), 1)]);
     let mut sum = 0;
     let mut length = 0;
-    while !agree_large(one, other, Some(length)) {
+    while !agree_large(one, other, mask, Some(length)) {
         let mut next: HashMap<(usize, usize), u128> = HashMap::new();
         for (&(p, q), &count) in &runs {
             if one.marks[p] != other.marks[q] {

@@ -1,122 +1,181 @@
 //! The self-test: this project's own parts against each other, without the product.
 
 use independent::cutter::{
-    agree, agree_finally, agree_from, agree_large, count_all, forms, least_plain, table_number,
-    Cutter,
+    agree, agree_large, count_all, forms, least_plain, table_number, Cutter,
 };
+use independent::damage::{same, Inputs};
 use independent::judge::{all_offsets, depths_by_lengths, fits, judge, read_listing};
+use independent::mistaken::{Mistaken, FAULTS, RIGHT};
 use independent::parallel::{spread, Counter};
 use independent::random::Random;
-use independent::rules::{assemble, depths, listing, text_for, Fate, Length, Study};
-use independent::shapes::{table, Shape, SHAPES};
-use independent::small::{all_reached_tables, all_tables};
-use independent::table::{read_image, read_input, Table};
+use independent::rules::{assemble, listing, text_for, Fate, Length, Study};
+use independent::shapes::{table, with_mask, Shape, SHAPES};
+use independent::small::{all_masks, all_tables, reached_tables};
+use independent::table::{
+    counted, every_event, read_image, read_input, read_sheet_input, Mask, Offset, Table,
+};
 use std::collections::HashSet;
 
-/// All runs of up to `longest` events, shorter ones first.
-fn all_runs(events: usize, longest: usize) -> Vec<Vec<usize>> {
-    let mut runs: Vec<Vec<usize>> = vec![vec![]];
+/// All runs of up to `longest` events, shorter ones first. The first is empty;
+/// each other one is the number of the run that it makes longer, and the event.
+fn all_runs(events: usize, longest: usize) -> Vec<(usize, usize)> {
+    let mut runs = vec![(0, 0)];
     let mut from = 0;
     for _ in 0..longest {
         let to = runs.len();
         for shorter in from..to {
-            for event in 0..events {
-                let mut run = runs[shorter].clone();
-                run.push(event);
-                runs.push(run);
-            }
+            runs.extend((0..events).map(|event| (shorter, event)));
         }
         from = to;
     }
     runs
 }
 
-/// Depth and distance against their definitions, run by run.
+/// What each run makes of the value of the empty run, event by event.
+fn along<T: Clone>(runs: &[(usize, usize)], empty: T, onward: impl Fn(&T, usize) -> T) -> Vec<T> {
+    let mut list = vec![empty];
+    for &(shorter, event) in &runs[1..] {
+        list.push(onward(&list[shorter], event));
+    }
+    list
+}
+
+/// A distance from the lengths of runs after which two rows differ: the greatest
+/// one, which means endless from `endless` on.
+fn distance_by(longest: Option<usize>, endless: usize) -> Length {
+    match longest {
+        None => Length::Of(0),
+        Some(length) if length >= endless => Length::Endless,
+        Some(length) => Length::Of(length + 1),
+    }
+}
+
+/// Depth and distance against their definitions, run by run, under all masks.
 ///
-/// Depth: a row is endless if and only if a run of `rows` to 2 × rows − 1
-/// events ends on it (see judge.rs). Distance: with P pairs of different rows,
-/// a run of P or more events after which two rows differ passes a pair twice,
-/// so such runs may be as long as one likes; and if there are such runs at all,
-/// one has fewer than 2 × P events. So runs of fewer than 2 × rows and of fewer
-/// than 2 × P events tell all.
+/// Depth: a row is endless if and only if a run of `rows` counted events or more
+/// ends on it. Take a run to a row, and its length, or `rows` if it is greater.
+/// What lies between two moments with the same row and length can be left out.
+/// So runs of fewer than rows × (rows + 1) events tell all. Distance: with P pairs
+/// of different rows, a run of P or more counted events after which two rows
+/// differ passes a pair twice with a counted event between, so such runs may be as
+/// long as one likes; and by the same argument runs of fewer than P × (P + 1)
+/// events tell all.
 #[test]
 fn depth_and_distance_run_by_run() {
     let tried = Counter::default();
     for (rows, events) in [(1, 1), (1, 2), (2, 1), (2, 2), (3, 1), (3, 2), (4, 1)] {
         let pairs = rows * (rows - 1) / 2;
-        let runs = all_runs(events, (2 * rows).max(2 * pairs) - 1);
-        let count = count_all(rows, events);
-        spread(count.div_ceil(500), |piece| {
-            for number in piece * 500..((piece + 1) * 500).min(count) {
-                let table = table_number(rows, events, number);
-                let study = Study::of(&table);
+        let runs = all_runs(events, (rows * (rows + 1)).max(pairs * (pairs + 1)) - 1);
+        let all_lengths: Vec<Vec<usize>> = all_masks(events)
+            .map(|mask| along(&runs, 0, |length, event| length + counted(mask, event)))
+            .collect();
+        tried.add(all_tables(rows, events, |table| {
+            let ends: Vec<[usize; 4]> = along(&runs, [0, 1, 2, 3], |ends, event| {
+                ends.map(|row| if row < rows { table.target(row, event) } else { row })
+            });
+            for mask in all_masks(events) {
+                let lengths = &all_lengths[mask as usize];
+                let study = Study::of(table, mask);
                 let mut depth = vec![None; rows];
-                for run in runs.iter().filter(|run| run.len() < 2 * rows) {
-                    let length =
-                        if run.len() < rows { Length::Of(run.len()) } else { Length::Endless };
-                    let row = table.run_from(table.start, run);
+                for (ends, &length) in ends.iter().zip(lengths) {
+                    let length = if length < rows { Length::Of(length) } else { Length::Endless };
+                    let row = ends[table.start];
                     depth[row] = depth[row].max(Some(length));
                 }
-                assert_eq!(study.depth, depth, "{table:?}");
-                assert_eq!(depths_by_lengths(&table), depth, "{table:?}");
+                assert_eq!(study.depth, depth, "{table:?} {mask:b}");
+                assert_eq!(depths_by_lengths(table, mask), depth, "{table:?} {mask:b}");
                 for one in 0..rows {
-                    for other in 0..rows {
-                        let longest = runs
-                            .iter()
-                            .filter(|run| {
-                                table.marks[table.run_from(one, run)]
-                                    != table.marks[table.run_from(other, run)]
-                            })
-                            .map(|run| run.len())
+                    assert_eq!(study.distance(one, one), Length::Of(0));
+                    for other in 0..one {
+                        let longest = (ends.iter().zip(lengths))
+                            .filter(|(ends, _)| table.marks[ends[one]] != table.marks[ends[other]])
+                            .map(|(_, &length)| length)
                             .max();
-                        let distance = match longest {
-                            None => Length::Of(0),
-                            Some(length) if length >= pairs => Length::Endless,
-                            Some(length) => Length::Of(length + 1),
-                        };
-                        assert_eq!(study.distance(one, other), distance, "{one} {other} {table:?}");
+                        let distance = distance_by(longest, pairs);
+                        assert_eq!(study.distance(one, other), distance, "{table:?} {mask:b}");
+                        assert_eq!(study.distance(other, one), distance, "{table:?} {mask:b}");
                     }
                 }
-                tried.add(1);
             }
-        });
+        }));
     }
-    println!("depth and distance, run by run: {} tables", tried.value());
+    println!("depth and distance, run by run: {} tables under all masks", tried.value());
 }
 
-/// Agreement run by run: with P pairs of rows, runs of fewer than 2 × P events
-/// tell all, by the same argument as above.
-fn agree_run_by_run(given: &Table, other: &Table, runs: &[Vec<usize>]) -> Option<usize> {
-    let pairs = given.rows * other.rows;
-    let longest = runs
-        .iter()
-        .filter(|run| run.len() < 2 * pairs)
-        .filter(|run| {
-            given.marks[given.run_from(given.start, run)]
-                != other.marks[other.run_from(other.start, run)]
-        })
-        .map(|run| run.len())
-        .max();
-    match longest {
-        None => Some(0),
-        Some(length) if length >= pairs => None,
-        Some(length) => Some(length + 1),
+/// For each point the greatest length of a run to it, of the lengths below `bound`.
+/// Runs are made longer event by event; of those that come to one point with one
+/// length only the first is followed, as the others go on alike.
+fn longest_to(
+    points: usize,
+    start: usize,
+    mask: Mask,
+    events: usize,
+    bound: usize,
+    onward: impl Fn(usize, usize) -> usize,
+) -> Vec<Option<usize>> {
+    let mut longest = vec![None; points];
+    let mut met = HashSet::from([(start, 0)]);
+    let mut open = vec![(start, 0)];
+    while let Some((point, length)) = open.pop() {
+        longest[point] = longest[point].max(Some(length));
+        for event in 0..events {
+            let next = (onward(point, event), length + counted(mask, event));
+            if next.1 < bound && met.insert(next) {
+                open.push(next);
+            }
+        }
     }
+    longest
 }
 
-fn check_agreement(given: &Table, other: &Table, runs: &[Vec<usize>]) {
-    let first = agree_run_by_run(given, other, runs);
-    for k in 0..2 * given.rows * other.rows {
-        let expected = first.is_some_and(|first| first <= k);
-        assert_eq!(agree_from(given, other, k), expected, "{k} {given:?} {other:?}");
-        assert_eq!(agree_large(given, other, Some(k)), expected, "{k} {given:?} {other:?}");
+/// The length from which on two tables agree, as the distance of their starts.
+/// With P pairs of rows, a run of length P or more passes a pair twice with a
+/// counted event between. So if they differ after such a run, they do after runs
+/// as long as one likes; and one has a length below 2 × P, since of a longer one a
+/// round of length 1 to P can be left out. So lengths below 2 × P tell all.
+fn distance_of_starts(given: &Table, other: &Table, mask: Mask) -> Length {
+    let (rows, pairs) = (other.rows, given.rows * other.rows);
+    let start = given.start * rows + other.start;
+    let longest = longest_to(pairs, start, mask, given.events, 2 * pairs, |pair, event| {
+        given.target(pair / rows, event) * rows + other.target(pair % rows, event)
+    });
+    let differing = (0..pairs)
+        .filter(|&pair| given.marks[pair / rows] != other.marks[pair % rows])
+        .filter_map(|pair| longest[pair]);
+    distance_by(differing.max(), pairs)
+}
+
+/// Both tables in one, begun at the first's start.
+fn side_by_side(given: &Table, other: &Table) -> Table {
+    let moved = other.targets.iter().map(|target| target + given.rows);
+    Table::new(
+        given.events,
+        given.start,
+        &given.targets.iter().copied().chain(moved).collect::<Vec<_>>(),
+        &[&given.marks[..], &other.marks[..]].concat(),
+    )
+}
+
+/// Agreement up to an offset and with none: as it is decided for small tables and
+/// for large ones, by the lengths of runs, and by the distance of the starts in a
+/// table made of both.
+fn check_agreement(given: &Table, other: &Table, mask: Mask, last: usize) {
+    let what = format!("{given:?} {other:?} {mask:b}");
+    let distance = distance_of_starts(given, other, mask);
+    let both = Study::of(&side_by_side(given, other), mask);
+    assert_eq!(both.distance(given.start, given.rows + other.start), distance, "{what}");
+    for offset in (0..=last).map(Some).chain([None]) {
+        let expected = match offset {
+            Some(k) => distance <= Length::Of(k),
+            None => distance != Length::Endless,
+        };
+        assert_eq!(agree(given, other, mask, offset), expected, "{offset:?} {what}");
+        assert_eq!(agree_large(given, other, mask, offset), expected, "{offset:?} {what}");
     }
-    assert_eq!(agree_finally(given, other), first.is_some(), "{given:?} {other:?}");
-    assert_eq!(agree_large(given, other, None), first.is_some(), "{given:?} {other:?}");
 }
 
 #[test]
-fn agreement_run_by_run() {
+fn agreement_length_by_length() {
     let tried = Counter::default();
     for events in 1..=2 {
         let tables: Vec<Table> = (1..=2)
@@ -124,38 +183,40 @@ fn agreement_run_by_run() {
                 (0..count_all(rows, events)).map(move |n| table_number(rows, events, n))
             })
             .collect();
-        let runs = all_runs(events, 7);
         spread(tables.len(), |piece| {
             for other in &tables {
-                check_agreement(&tables[piece], other, &runs);
-                tried.add(1);
+                for mask in all_masks(events) {
+                    check_agreement(&tables[piece], other, mask, 8);
+                    tried.add(1);
+                }
             }
         });
     }
-    let runs = all_runs(2, 11);
     spread(400, |piece| {
         let mut random = Random::new(1_000 + piece as u64);
         for _ in 0..10 {
             let given = table_number(3, 2, random.below(count_all(3, 2)));
             let other = table_number(2, 2, random.below(count_all(2, 2)));
-            check_agreement(&given, &other, &runs);
-            check_agreement(&other, &given, &runs);
-            tried.add(2);
+            for mask in all_masks(2) {
+                check_agreement(&given, &other, mask, 12);
+                check_agreement(&other, &given, mask, 12);
+                tried.add(2);
+            }
         }
     });
-    println!("agreement, run by run: {} pairs of tables", tried.value());
+    println!("agreement, length by length: {} pairs of tables with a mask", tried.value());
 }
 
-/// The walk for large tables against the plain one, on larger tables.
+/// The same on larger tables that are much alike.
 #[test]
-fn agreement_of_large_tables() {
+fn agreement_of_larger_tables() {
     let tried = Counter::default();
     spread(300, |piece| {
         let mut random = Random::new(2_000 + piece as u64);
         for shape in SHAPES {
             let rows = random.between(1, 12);
             let events = random.between(1, 3);
-            let given = table(&mut random, shape, rows, events);
+            let (given, mask) = with_mask(&mut random, shape, rows, events);
             let mut other = given.clone();
             if random.chance(1, 2) {
                 let row = random.below(rows);
@@ -168,13 +229,11 @@ fn agreement_of_large_tables() {
                 let cell = random.below(rows * events);
                 other.targets[cell] = random.below(rows);
             }
-            for offset in all_offsets(rows) {
-                assert_eq!(agree(&given, &other, offset), agree_large(&given, &other, offset));
-            }
+            check_agreement(&given, &other, mask, 2 * rows);
             tried.add(1);
         }
     });
-    println!("agreement of larger tables, two ways: {} pairs of tables", tried.value());
+    println!("agreement of larger tables: {} pairs of tables with a mask", tried.value());
 }
 
 /// The list of forms is the whole list: every table, its unreached rows left
@@ -229,30 +288,39 @@ fn cutter_two_ways() {
         spread(count.div_ceil(50), |piece| {
             for number in piece * 50..((piece + 1) * 50).min(count) {
                 let table = table_number(rows, events, number * step);
-                let least = cutter.least(&table, &offsets);
-                for (place, &offset) in offsets.iter().enumerate() {
-                    assert_eq!(least[place], least_plain(&table, offset), "{table:?} {offset:?}");
+                for mask in all_masks(events) {
+                    let least = cutter.least(&table, mask, &offsets);
+                    for (place, &offset) in offsets.iter().enumerate() {
+                        let plain = least_plain(&table, mask, offset);
+                        assert_eq!(least[place], plain, "{table:?} {mask:b} {offset:?}");
+                    }
                 }
                 tried.add(1);
             }
         });
     }
-    println!("cutter, two ways: {} tables", tried.value());
+    println!("cutter, two ways: {} tables under all masks", tried.value());
 }
 
 /// The heart of the self-test: the row count by the rules is the least row
 /// count that brute force finds, and the table by the rules agrees.
-fn rules_against_cutter(cutter: &Cutter, table: &Table) {
-    let study = Study::of(table);
+fn rules_against_cutter(cutter: &Cutter, table: &Table, mask: Mask) {
+    let study = Study::of(table, mask);
     let offsets = all_offsets(table.rows);
-    let least = cutter.least(table, &offsets);
+    let least = cutter.least(table, mask, &offsets);
     for (place, &offset) in offsets.iter().enumerate() {
         let reduced = study.reduce(offset);
-        assert_eq!(reduced.table.rows, least[place], "{table:?} at {offset:?}");
-        assert!(agree(table, &reduced.table, offset), "{table:?} at {offset:?}");
+        assert_eq!(reduced.table.rows, least[place], "{table:?} {mask:b} at {offset:?}");
+        let agrees = agree_large(table, &reduced.table, mask, offset);
+        assert!(agrees, "{table:?} {mask:b} at {offset:?}");
     }
     // "An offset of twice the given rows or more yields the same table as none."
-    assert_eq!(study.text(Some(2 * table.rows)), study.text(None), "{table:?}");
+    assert_eq!(study.text(Some(2 * table.rows)), study.text(None), "{table:?} {mask:b}");
+}
+
+/// The same under all masks.
+fn rules_against_cutter_all_masks(cutter: &Cutter, table: &Table) {
+    all_masks(table.events).for_each(|mask| rules_against_cutter(cutter, table, mask));
 }
 
 #[test]
@@ -262,10 +330,11 @@ fn rules_against_cutter_on_all_small_tables() {
         [(1, 1), (2, 1), (3, 1), (4, 1), (5, 1), (1, 2), (2, 2), (3, 2), (1, 3), (2, 3)]
     {
         let cutter = Cutter::new(rows, events);
-        let tried = all_tables(rows, events, |given| rules_against_cutter(&cutter, given));
+        let tried =
+            all_tables(rows, events, |given| rules_against_cutter_all_masks(&cutter, given));
         println!(
             "rules against cutter: all {tried} tables of {rows} rows and {events} events, \
-             each against {} smaller ones",
+             under all masks each against {} smaller ones",
             cutter.tables_tried(rows)
         );
         sum += tried;
@@ -273,13 +342,15 @@ fn rules_against_cutter_on_all_small_tables() {
     println!("rules against cutter: {sum} tables in all, at all offsets and none");
 }
 
-/// Four rows and two events: all tables in which every row is reached, up to
-/// renumbering.
+/// Four rows and two events: a third of the tables in which every row is reached,
+/// up to renumbering.
 #[test]
 fn rules_against_cutter_on_four_rows() {
     let cutter = Cutter::new(4, 2);
-    let tried = all_reached_tables(4, 2, 3_000, |given| rules_against_cutter(&cutter, given));
-    println!("rules against cutter: {tried} tables of 4 rows and 2 events");
+    let tried = reached_tables([2, 3], 4, 2, 3_000, |given| {
+        rules_against_cutter_all_masks(&cutter, given);
+    });
+    println!("rules against cutter: {tried} tables of 4 rows and 2 events, under all masks");
 }
 
 #[test]
@@ -290,7 +361,8 @@ fn rules_against_cutter_on_random_tables() {
         spread(pieces, |piece| {
             let mut random = Random::new(4_000 + piece as u64);
             for shape in SHAPES {
-                rules_against_cutter(&cutter, &table(&mut random, shape, rows, events));
+                let (given, mask) = with_mask(&mut random, shape, rows, events);
+                rules_against_cutter(&cutter, &given, mask);
                 tried.add(1);
             }
         });
@@ -306,18 +378,21 @@ fn images_read_back() {
     for rows in 1..=128 {
         for shape in SHAPES {
             let events = random.between(1, 32);
-            let given = table(&mut random, shape, rows, events);
+            let (given, mask) = with_mask(&mut random, shape, rows, events);
             assert_eq!(read_image(&given.image()), Ok(given.clone()));
             assert_eq!(given.image().len(), rows.div_ceil(8) + 2 * rows * events + 8);
-            let offset = random.below(65_535);
-            assert_eq!(read_input(&given.input(Some(offset))), Ok((Some(offset), given.clone())));
-            assert_eq!(read_input(&given.input(None)), Ok((None, given)));
+            assert_eq!(read_sheet_input(&given.sheet_input(mask)), Ok((mask, given.clone())));
+            for offset in [Some(random.below(65_535)), None] {
+                let input = given.input(offset, mask);
+                assert_eq!(read_input(&input), Ok((offset, mask, given.clone())));
+            }
             tried += 1;
         }
     }
     let a = Table::new(1, 0, &[1, 2, 2], &[true, false, false]);
-    let bytes = [0, 0, 3, 0, 1, 3, 0, 1, 0, 2, 0, 2, 0, 1, 0, 0, 0];
-    assert_eq!(a.input(Some(0)), bytes);
+    let bytes = [0, 0, 1, 0, 0, 0, 3, 0, 1, 3, 0, 1, 0, 2, 0, 2, 0, 1, 0, 0, 0];
+    assert_eq!(a.input(Some(0), 1), bytes);
+    assert_eq!(a.sheet_input(0x0403_0201)[..4], [1, 2, 3, 4]);
     println!("images read back: {tried} tables");
 }
 
@@ -331,12 +406,12 @@ fn own_listings_pass_the_judge() {
         for shape in SHAPES {
             let rows = random.between(1, 30);
             let events = random.between(1, 4);
-            let given = table(&mut random, shape, rows, events);
-            let study = Study::of(&given);
+            let (given, mask) = with_mask(&mut random, shape, rows, events);
+            let study = Study::of(&given, mask);
             for offset in all_offsets(rows) {
                 let text = study.text(offset);
-                assert_eq!(text.as_bytes(), text_for(&given.input(offset)).as_bytes());
-                let count = judge(&given, offset, text.as_bytes()).unwrap();
+                assert_eq!(text.as_bytes(), text_for(&given.input(offset, mask)).as_bytes());
+                let count = judge(&given, mask, offset, text.as_bytes()).unwrap();
                 assert_eq!(count, study.reduce(offset).table.rows);
             }
             tried.add(1);
@@ -345,14 +420,15 @@ fn own_listings_pass_the_judge() {
     println!("own listings judged: {} tables, at all offsets and none", tried.value());
 }
 
-/// Faulty reducers: each of document 01's fakes and of "Where a cutter goes
-/// astray" is told from the right one, by the text and, where the fault breaks
-/// agreement or leastness, by judge and cutter alone.
+/// Faulty reducers: each of document 01's fakes, of "Where a cutter goes astray"
+/// and of the faults of mistaken.rs that listings show is told from the right one,
+/// by the text and, where the fault breaks agreement or leastness, by judge and
+/// cutter alone.
 #[test]
 fn faults_are_found() {
-    type Faulty = fn(&Study, Option<usize>) -> String;
+    type Faulty = fn(&Study, Offset) -> String;
     fn with(study: &Study, similar: &dyn Fn(usize, usize) -> bool) -> String {
-        listing(&assemble(&study.table, &study.depth, similar))
+        listing(&assemble(&study.table, &study.depth, similar), study.mask)
     }
     fn at_most(study: &Study, a: usize, b: usize, k: Option<usize>, less: usize) -> bool {
         // Similarity with the distance made smaller by `less`.
@@ -366,45 +442,40 @@ fn faults_are_found() {
             (Some(_), Length::Endless) => distance == 0,
         }
     }
-    fn shortest(table: &Table) -> Vec<Option<Length>> {
+    fn shortest(table: &Table, mask: Mask) -> Vec<Option<Length>> {
         let mut depth = vec![None; table.rows];
         depth[table.start] = Some(Length::Of(0));
-        for length in 0..table.rows {
-            for row in 0..table.rows {
-                if depth[row] == Some(Length::Of(length)) {
-                    for event in 0..table.events {
-                        depth[table.target(row, event)].get_or_insert(Length::Of(length + 1));
-                    }
+        // A shortest run passes no row twice.
+        for _ in 1..table.rows {
+            for cell in 0..table.targets.len() {
+                if let Some(Length::Of(length)) = depth[cell / table.events] {
+                    let onward = Length::Of(length + counted(mask, cell % table.events));
+                    let known = depth[table.targets[cell]].get_or_insert(onward);
+                    *known = onward.min(*known);
                 }
             }
         }
         depth
     }
-    let untouched: Faulty = |study, _| {
-        let mut reduced = assemble(&study.table, &study.depth, &|_, _| false);
-        reduced.depth = study.depth.clone();
-        listing(&reduced)
-    };
+    let untouched: Faulty = |study, _| with(study, &|_, _| false);
     let one_waiting_row: Faulty = |study, _| {
         let mut reduced = assemble(&study.table, &study.depth, &|_, _| true);
         reduced.table.marks = vec![false];
-        listing(&reduced)
+        listing(&reduced, study.mask)
     };
     let made_up_count: Faulty = |study, offset| {
-        let reduced = study.reduce(offset);
-        let old = format!("table {} ", reduced.table.rows);
-        listing(&reduced).replacen(&old, &format!("table {} ", reduced.table.rows + 1), 1)
+        let rows = study.reduce(offset).table.rows;
+        let (old, new) = (format!("table {rows} "), format!("table {} ", rows + 1));
+        study.text(offset).replacen(&old, &new, 1)
     };
     let shortest_depth: Faulty = |study, offset| {
         let other = Study {
-            table: study.table.clone(),
-            depth: shortest(&study.table),
-            distance: study.distance.clone(),
+            depth: shortest(&study.table, study.mask),
+            ..Study::of(&study.table, study.mask)
         };
-        let similar = |a, b| other.similar(a, b, offset);
-        let mut reduced = assemble(&other.table, &other.depth, &similar);
+        let mut reduced = other.fold(offset);
         reduced.depth = study.depth.clone(); // printed right, used wrong
-        listing(&reduced)
+        listing(&reduced, study.mask)
     };
     let one_less: Faulty = |study, offset| with(study, &|a, b| at_most(study, a, b, offset, 1));
     let endless_folded: Faulty =
@@ -439,44 +510,50 @@ fn faults_are_found() {
     let refusing: Faulty = |_, _| "refused 7 0\n".to_string();
 
     // Name, the fault, and whether judge and cutter alone must find it.
-    let faults: [(&str, Faulty, bool); 10] = [
-        ("the table untouched", untouched, true),
-        ("one waiting row always", one_waiting_row, true),
-        ("a made-up row count", made_up_count, true),
-        ("depth from the shortest run", shortest_depth, true),
-        ("distance without one more", one_less, true),
-        ("two endless rows folded", endless_folded, true),
-        ("similarity as grouping", grouping, true),
-        ("folding into the nearest", nearest, false),
-        ("only equal rows folded", equal_only, true),
-        ("refusing every table", refusing, true),
+    type Entry = (&'static str, Box<dyn Fn(&Study, Offset) -> String>, bool);
+    let mut faults: Vec<Entry> = vec![
+        ("the table untouched", Box::new(untouched), true),
+        ("one waiting row always", Box::new(one_waiting_row), true),
+        ("a made-up row count", Box::new(made_up_count), true),
+        ("depth from the shortest run", Box::new(shortest_depth), true),
+        ("distance without one more", Box::new(one_less), true),
+        ("two endless rows folded", Box::new(endless_folded), true),
+        ("similarity as grouping", Box::new(grouping), true),
+        ("folding into the nearest", Box::new(nearest), false),
+        ("only equal rows folded", Box::new(equal_only), true),
+        ("refusing every table", Box::new(refusing), true),
     ];
+    for fault in FAULTS.iter().filter(|fault| fault.in_listings) {
+        let reducer = |study: &Study, offset: Offset| {
+            String::from_utf8(fault.reduce(&study.table.input(offset, study.mask))).unwrap()
+        };
+        faults.push((fault.name, Box::new(reducer), true));
+    }
     let cutter = Cutter::new(4, 2);
-    let mut by_text = [0usize; 10];
-    let mut by_judge = [0usize; 10];
+    let mut by_text = vec![0usize; faults.len()];
+    let mut by_judge = vec![0usize; faults.len()];
     let mut tried = 0;
     let mut random = Random::new(7_000);
-    let mut tables: Vec<Table> =
-        (0..count_all(3, 2)).step_by(11).map(|n| table_number(3, 2, n)).collect();
+    let mut tables: Vec<(Table, Mask)> =
+        (0..count_all(3, 2)).step_by(11).map(|n| (table_number(3, 2, n), n as Mask % 4)).collect();
     for _ in 0..150 {
-        for shape in SHAPES {
-            tables.push(table(&mut random, shape, 4, 2));
-        }
+        tables.extend(SHAPES.map(|shape| with_mask(&mut random, shape, 4, 2)));
     }
     // Document 01's table D.
-    tables.push(Table::new(2, 3, &[1, 2, 0, 0, 0, 0, 0, 0], &[false, true, false, false]));
-    for given in &tables {
-        let study = Study::of(given);
+    let d = Table::new(2, 3, &[1, 2, 0, 0, 0, 0, 0, 0], &[false, true, false, false]);
+    tables.push((d, 3));
+    for (given, mask) in &tables {
+        let study = Study::of(given, *mask);
         let offsets = all_offsets(given.rows);
-        let least = cutter.least(given, &offsets);
+        let least = cutter.least(given, *mask, &offsets);
         for (place, &offset) in offsets.iter().enumerate() {
             let right = study.text(offset);
-            for (fault, &(_, reducer, _)) in faults.iter().enumerate() {
+            for (fault, (_, reducer, _)) in faults.iter().enumerate() {
                 let text = reducer(&study, offset);
                 if text != right {
                     by_text[fault] += 1;
                 }
-                if judge(given, offset, text.as_bytes()) != Ok(least[place]) {
+                if judge(given, *mask, offset, text.as_bytes()) != Ok(least[place]) {
                     by_judge[fault] += 1;
                     assert_ne!(text, right, "the judge refuses a right text");
                 }
@@ -492,6 +569,44 @@ fn faults_are_found() {
     }
 }
 
+/// The other faults of mistaken.rs are found in damaged inputs.
+#[test]
+fn mistaken_masks_are_found_in_damaged_inputs() {
+    let found = |fault: &Mistaken| {
+        let found = Counter::default();
+        let count = |input: &[u8]| {
+            let printed = same(&|input| fault.reduce(input), input, &text_for(input));
+            found.add(printed.is_err() as usize);
+        };
+        Inputs::OfReduce.cut_and_extended(count);
+        Inputs::OfReduce.too_high_masks(count);
+        Inputs::OfReduce.each_mask_bit(count);
+        found.value()
+    };
+    assert_eq!(found(&RIGHT), 0);
+    for fault in FAULTS.iter().filter(|fault| fault.in_damage) {
+        let count = found(fault);
+        println!("{}: found in {count} damaged inputs", fault.name);
+        assert!(count > 0, "{} is not found", fault.name);
+    }
+    assert!(FAULTS.iter().all(|fault| fault.in_listings || fault.in_damage));
+}
+
+fn finite(length: Length) -> bool {
+    matches!(length, Length::Of(n) if n > 0)
+}
+
+/// Does a row fold into an unequal one at half the rows?
+fn folds_unequal(study: &Study) -> bool {
+    let text = study.text(Some(study.table.rows / 2));
+    let list = read_listing(text.as_bytes()).unwrap();
+    fits(&study.table, study.mask, &list).unwrap();
+    let into_unequal = |(row, fate): (usize, &Fate)| {
+        matches!(fate, Fate::Folded(into) if finite(study.distance(row, *into)))
+    };
+    list.fates.iter().enumerate().any(into_unequal)
+}
+
 /// The shapes do what they are for: finite depths and distances occur often.
 #[test]
 fn shapes_are_mixed() {
@@ -502,19 +617,11 @@ fn shapes_are_mixed() {
             let rows = random.between(8, 60);
             let events = random.between(1, 4);
             let given = table(&mut random, shape, rows, events);
-            let study = Study::of(&given);
-            assert_eq!(study.depth, depths(&given));
-            let finite = |length: Length| matches!(length, Length::Of(n) if n > 0);
+            let study = Study::of(&given, every_event(events));
             finite_depth += study.depth.iter().flatten().any(|&d| finite(d)) as usize;
             unreached += study.depth.iter().any(|d| d.is_none()) as usize;
             finite_distance += study.distance.iter().any(|&d| finite(d)) as usize;
-            let text = study.text(Some(rows / 2));
-            let list = read_listing(text.as_bytes()).unwrap();
-            fits(&given, &list).unwrap();
-            let into_unequal = |(row, fate): (usize, &Fate)| {
-                matches!(fate, Fate::Folded(into) if finite(study.distance(row, *into)))
-            };
-            folds += list.fates.iter().enumerate().any(into_unequal) as usize;
+            folds += folds_unequal(&study) as usize;
         }
         println!(
             "shape {shape:?}: of 200 tables {finite_depth} with finite depths, \
@@ -524,5 +631,44 @@ fn shapes_are_mixed() {
         if shape != Shape::Free && shape != Shape::Echo {
             assert!(finite_depth > 100 && finite_distance > 100 && folds > 40);
         }
+    }
+}
+
+/// So do the masks: often rows on idle circles have finite depths, and pairs of
+/// rows finite distances, so that both would be endless if every event counted.
+#[test]
+fn masks_are_mixed() {
+    for shape in SHAPES {
+        let (mut idle_depth, mut idle_distance, mut folds) = (0, 0, 0);
+        let mut masks = [0; 4];
+        for number in 0..200 {
+            let mut random = Random::new(9_000 + number);
+            let rows = random.between(8, 60);
+            let events = random.between(2, 6);
+            let (given, mask) = with_mask(&mut random, shape, rows, events);
+            let study = Study::of(&given, mask);
+            let all = Study::of(&given, every_event(events));
+            let depths = study.depth.iter().zip(&all.depth);
+            let only_idle = |one: Length, all: Length| finite(one) && all == Length::Endless;
+            idle_depth += depths
+                .filter_map(|(one, all)| one.zip(*all))
+                .any(|(one, all)| only_idle(one, all)) as usize;
+            let mut distances = study.distance.iter().zip(&all.distance);
+            idle_distance += distances.any(|(&one, &all)| only_idle(one, all)) as usize;
+            folds += folds_unequal(&study) as usize;
+            masks[match mask.count_ones() as usize {
+                0 => 0,
+                1 => 1,
+                all if all == events => 3,
+                _ => 2,
+            }] += 1;
+        }
+        println!(
+            "shape {shape:?}: of 200 tables {masks:?} with no, one, some and all events counted, \
+             {idle_depth} with finite depths that would be endless, {idle_distance} with such \
+             distances, {folds} with folds of unequal rows at half the rows"
+        );
+        assert!(masks.iter().all(|&count| count > 20) && idle_distance > 20);
+        assert!(idle_depth > 30 || shape == Shape::Free || shape == Shape::Echo);
     }
 }
