@@ -1,7 +1,7 @@
 #!/usr/bin/env bash
 # Builds a program of this repository (proving what it is made of, a few minutes the first time) and runs it on a file:
-#   bash run.sh reduce INPUT    two bytes of offset, then an image: the shortest table
-#   bash run.sh sheet IMAGE     an image: the fewest rows at every offset
+#   bash run.sh reduce INPUT    two bytes of offset, four of mask, then an image: the shortest table
+#   bash run.sh sheet INPUT     four bytes of mask, then an image: the fewest rows at every offset
 set -euo pipefail
 usage="usage: bash run.sh reduce|sheet FILE"
 program="${1:?$usage}"
