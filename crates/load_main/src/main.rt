@@ -1,20 +1,17 @@
-// The largest tables: 1,024 rows of 32 events as a chain and a random table. What is printed is the new row count of each, and of its
-// sheet the number of entries, the first one, those of offsets 1,022 and 1,023, and the last.
+// Tables that are drawn from a seed: a small one, and what the generator refuses, with the lent cells and mark bytes afterwards. Then the largest
+// tables, 1,024 rows of 32 events as a chain and drawn. What is printed is the new row count of each, and of its sheet the number of
+// entries, the first one, those of offsets 1,022 and 1,023, and the last.
 use offsets::Listed;
+use printing::put_bytes;
+use printing::put_cells;
 use printing::put_line;
 use reduction::Answer;
 use rules::Offset;
+use rules::Verdict;
 use text::put_refusal;
 
 // Every event counts.
 const ALL: u32 = 4294967295;
-
-// The next state of Marsaglia's xorshift, with shifts 13 left, 17 right, 5 left.
-fn next(state: u32) -> u32 {
-    let a = state ^ (state << 13);
-    let b = a ^ (a >> 17);
-    b ^ (b << 5)
-}
 
 // The row after `row`; after the last row it is that row itself.
 fn row_after(row: usize) -> u16 {
@@ -30,26 +27,6 @@ fn fill_chain(cells: &mut [u16]) {
     while c < cells.len() {
         cells[c] = row_after(c / 32);
         c += 1;
-    }
-}
-
-fn fill_random(cells: &mut [u16], seed: u32) {
-    let mut state = seed;
-    let mut c = 0;
-    while c < cells.len() {
-        state = next(state);
-        cells[c] = (state % 1024) as u16;
-        c += 1;
-    }
-}
-
-fn fill_marks(marks: &mut [u8], seed: u32) {
-    let mut state = seed;
-    let mut i = 0;
-    while i < marks.len() {
-        state = next(state);
-        marks[i] = (state % 256) as u8;
-        i += 1;
     }
 }
 
@@ -121,15 +98,43 @@ fn sheet(name: &[u8], cells: &[u16], marks: &[u8]) {
     printing::print(&out, n);
 }
 
+fn put_verdict(out: &mut [u8], at: usize, verdict: Verdict) -> usize {
+    match verdict {
+        Verdict::Fine => put_line(out, at, b"fine", &[]),
+        Verdict::Refused(number, place) => put_refusal(out, at, number, place),
+    }
+}
+
+// Draws a table into 20 cells and 3 mark bytes, which hold a number each before.
+fn put_drawn(out: &mut [u8], at: usize, seed: u32, rows: usize, events: usize) -> usize {
+    let mut cells = [7777u16; 20];
+    let mut marks = [170u8; 3];
+    let verdict = load::generate(seed, rows, events, &mut cells, &mut marks);
+    let told = put_verdict(out, at, verdict);
+    let celled = put_cells(out, told, &cells);
+    put_bytes(out, celled, &marks)
+}
+
+// Nine rows of two events; then each rule broken together with all that are checked after it. 24 rows of one event need 24 cells.
+fn print_drawn() {
+    let mut out = io::large_buffer();
+    let drawn = put_drawn(&mut out, 0, 1, 9, 2);
+    let one = put_drawn(&mut out, drawn, 0, 1025, 33);
+    let two = put_drawn(&mut out, one, 0, 24, 33);
+    let seventeen = put_drawn(&mut out, two, 0, 24, 1);
+    let seven = put_drawn(&mut out, seventeen, 1, 24, 1);
+    printing::print(&out, seven);
+}
+
 fn main() {
+    print_drawn();
     let mut cells = [0u16; 32768];
     let mut marks = [0u8; 128];
     marks[127] = 128;
     fill_chain(&mut cells);
     reduce(b"chain", Offset::Number(1023), &cells, &marks);
     sheet(b"chain sheet", &cells, &marks);
-    fill_random(&mut cells, 1);
-    fill_marks(&mut marks, 2);
-    reduce(b"random", Offset::None, &cells, &marks);
-    sheet(b"random sheet", &cells, &marks);
+    load::generate(1, 1024, 32, &mut cells, &mut marks);
+    reduce(b"drawn", Offset::None, &cells, &marks);
+    sheet(b"drawn sheet", &cells, &marks);
 }

@@ -3,6 +3,7 @@ use mathlib.Core.Path.{_≡_, sym, ap, subst, _∙_}
 use mathlib.Core.List.{List, [], _∷_, _++_, append-assoc, append-nil}
 use Prim.Native.Nat.{ℕ, suc, _+_, _-_, _≤_, _<_}
 use native.Mathlib.Nat.{zero-add}
+use native.Mathlib.Numerals.{add-one}
 use native.Mathlib.Omega.{arith}
 use native.Mathlib.Decide.{decLt}
 use lib.ListN.{length, getD, take, drop, set, length-append, length-drop, take-append-drop, drop-of-length-le, List·getD-append}
@@ -80,6 +81,16 @@ over-next d at s i hi hd =
 -- All of s.
 pub over-all : (d : List ℕ) (at : ℕ) (s : List ℕ) (i : ℕ) → length s ≤ i → over d at (take i s) ≡ over d at s
 over-all d at s i h = ap (over d at) (take-all i s h)
+
+-- One element more of f 0, f 1, ..
+pub tabulate-next : (n : ℕ) (f : ℕ → ℕ) (d : List ℕ) (i : ℕ) (e : List ℕ) (x : ℕ) → e ≡ over d 0 (take i (tabulate n f)) → x ≡ f i → i < n → n ≤ length d
+    → set e i x ≡ over d 0 (take (i + 1) (tabulate n f))
+tabulate-next n f d i e x he hx h fits =
+    let l : List ℕ = tabulate n f in
+    let k : length l ≡ n = tabulate-length n f in
+    let value : x ≡ getD l i 0 = hx ∙ sym (tabulate-at n f i 0 h) in
+    ap (λ (u : List ℕ). set u i x) he ∙ ap (set (over d 0 (take i l)) i) value ∙ ap (λ (j : ℕ). set (over d 0 (take i l)) j (getD l i 0)) (sym (zero-add i))
+    ∙ over-next d 0 l i (omega arith) (omega arith) ∙ ap (λ (j : ℕ). over d 0 (take j l)) (sym (add-one i))
 
 -- What is written from the front, and then on from where that ends.
 pub over-then : (d e f s t : List ℕ) (n : ℕ) → e ≡ over d 0 s → n ≡ length s → n ≤ length d → f ≡ over e n t → f ≡ over d 0 (s ++ t)

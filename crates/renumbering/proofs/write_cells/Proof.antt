@@ -4,9 +4,8 @@ use native.Mathlib.Omega.{arith}
 use lib.ListN.{length, take, length-set}
 use Rattle.tables.specs.Lists.{tabulate, over}
 use Rattle.tables.proofs.Lists.{tabulate-length}
-use Rattle.tables.proofs.Over.{over-none, over-all}
+use Rattle.tables.proofs.Over.{over-none, over-all, tabulate-next}
 use Rattle.renumbering.specs.Line.{newTarget}
-use Rattle.renumbering.proofs.Writing.{target-next}
 use Rattle.renumbering.proofs.write_cells.Statement.{statement}
 use Rattle.renumbering.proofs.write_cells.Tie as tie
 
@@ -30,7 +29,7 @@ loop-again c =
     let z = c .before .before .before .before .before .before in
     let a = z .args in
     let l = c .before .before .loop in
-    let e = target-next (a .cells .now) (a .rows) (a .events) (a .scratch .now) (a .count) (a .out .now) (l .c) (l .out) (c .new-target .result) (l .inv .1) (c .new-target .ensures) (omega arith) (z .pre .2) in
+    let e = tabulate-next (a .count) (newTarget (a .cells .now) (a .rows) (a .events) (a .scratch .now)) (a .out .now) (l .c) (l .out) (c .new-target .result) (l .inv .1) (c .new-target .ensures) (omega arith) (z .pre .2) in
     (omega arith, e, length-set (l .out) (l .c) (c .new-target .result) ∙ l .inv .2)
 
 same-length : tie.Need-same-length Inv-loop μ-loop

@@ -3,8 +3,9 @@ use Prim.Native.Nat.{ℕ, _-_, _*_, _≤_}
 use native.Mathlib.Omega.{arith}
 use borrow.Author.Needs.{needs}
 use Rattle.tables.specs.Table.{markBytes}
+use Rattle.marks.proofs.Marking.{Marking, marking-none, marking-next, marking-all}
 use Rattle.renumbering.specs.Line.{newMark}
-use Rattle.renumbering.proofs.Writing.{new-mark-none, new-mark-small, Marking, marking-none, marking-next, marking-all}
+use Rattle.renumbering.proofs.Writing.{new-mark-none, new-mark-small}
 use Rattle.renumbering.proofs.write_marks.Statement.{statement}
 use Rattle.renumbering.proofs.write_marks.Tie as tie
 

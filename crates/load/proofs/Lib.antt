@@ -1,0 +1,5 @@
+pub mod Drawing
+pub mod Valid
+pub mod Promised
+pub mod Accepted
+pub mod Cases

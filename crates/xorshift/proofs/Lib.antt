@@ -1,0 +1,4 @@
+pub mod Xor
+pub mod Steps
+pub mod States
+pub mod Cases
