@@ -9,7 +9,7 @@ use Rattle.tables.specs.Lengths.{least, distance, lead, reached, depth}
 use Rattle.tables.specs.Reduction.{similarBy, level, levels, order, similar, kept, fold, met, numbering, number, renumbered, fateOf, reduced, records}
 use Rattle.marks.specs.Marks.{spareSet}
 use Rattle.weights.specs.Weights.{spareBit, counted}
-use Rattle.image_reader.specs.Read.{readOf}
+use Rattle.image_sections.specs.Read.{readOf}
 use Rattle.text.specs.Text.{text, decimalIn, decimal, joined, pairLine, headLine}
 use Rattle.listing.specs.Listing.{targetWord, markWords, rowLine, depthWords, fateWords, recordLine, listing}
 use Rattle.image_text.specs.ImageText.{imageText, inputText}

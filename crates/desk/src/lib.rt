@@ -10,7 +10,7 @@ ghost use Rattle.text.specs.Text.{filled, Puts};
 ghost use Rattle.image_text.specs.ImageText.{imageText, maskedText};
 ghost use Rattle.desk.specs.Printed.{reductionText, printed};
 ghost use Rattle.listing.specs.Listing.{blank as blankRecord};
-use image_reader::Read;
+use image_sections::Read;
 use reduction::Answer;
 use rules::Offset;
 

@@ -3,20 +3,22 @@ ghost use mathlib.Core.Path.{_≡_};
 ghost use mathlib.Core.Bool.{true};
 ghost use Prim.Native.Nat.{min};
 ghost use lib.ListN.{length};
+ghost use Rattle.tables.specs.Table.{weightBy};
+ghost use Rattle.tables.specs.Reduction.{reduced};
 ghost use Rattle.rules.specs.Rules.{winch, tableOf};
+ghost use Rattle.reduction.specs.Reduce.{verdict, answerBy, Promise};
+ghost use Rattle.load.specs.Load.{load, verdict as verdictOfLoad, Promise as PromiseOfLoad};
 ghost use Rattle.images.specs.declared.Form.the-variants.{Radio};
 ghost use Rattle.image_writer.specs.Write.{writtenAs, imageInAs};
-ghost use Rattle.image_reader.specs.Read.{anyRows, readAs, cellsAs, marksIn};
+ghost use Rattle.image_sections.specs.Read.{anyRows};
+ghost use Rattle.image_reader.specs.Read.{readAs, cellsAs, marksIn};
 ghost use Rattle.packs.specs.Pack.{listOf, cellsOf, marksOf};
 ghost use Rattle.pack_writer.specs.Write.{packed, packIn};
 ghost use Rattle.pack_reader.specs.Read.{unpacked, answerOf, leftIn};
-ghost use Rattle.exports.specs.Answers.{four, ofWritten, ofRead, ofUnpacked};
+ghost use Rattle.answers.specs.Answers.{ofWritten, ofRead, ofUnpacked, ofAnswer, ofVerdict, offsetIn};
 ghost use Rattle.text.specs.Text.{filled};
 ghost use Rattle.desk.specs.Printed.{printed};
 ghost use Rattle.sheet_desk.specs.Printed.{printed as printedSheet};
-use image_reader::Read;
-use image_writer::Written;
-use pack_reader::Unpacked;
 
 // Writes what `reduce` prints for its input, as `desk::write_text` does.
 #[no_mangle]
@@ -38,39 +40,6 @@ pub extern "C" fn gelfost_sheet_text(input: &[u8], out: &mut [u8]) -> usize
     sheet_desk::write_sheet_text(input, out)
 }
 
-fn put_four(answer: &mut [usize; 4], a: usize, b: usize, c: usize, d: usize)
-    ensures { λ r. ⌜ now (answer .exit) ≡ four a b c d ⌝ }
-{
-    *answer = [a, b, c, d];
-}
-
-fn put_written(answer: &mut [usize; 4], written: Written)
-    ensures { λ r. ⌜ now (answer .exit) ≡ ofWritten written ⌝ }
-{
-    match written {
-        Written::Length(n) => put_four(answer, 0, n, 0, 0),
-        Written::Refused(number, place) => put_four(answer, number, place, 0, 0),
-    }
-}
-
-fn put_read(answer: &mut [usize; 4], read: Read)
-    ensures { λ r. ⌜ now (answer .exit) ≡ ofRead read ⌝ }
-{
-    match read {
-        Read::Table(rows, events, start) => put_four(answer, 0, rows, events, start),
-        Read::Refused(number, place) => put_four(answer, number, place, 0, 0),
-    }
-}
-
-fn put_unpacked(answer: &mut [usize; 4], found: Unpacked)
-    ensures { λ r. ⌜ now (answer .exit) ≡ ofUnpacked found ⌝ }
-{
-    match found {
-        Unpacked::Tables(n) => put_four(answer, 0, n, 0, 0),
-        Unpacked::Refused(number, place) => put_four(answer, number, place, 0, 0),
-    }
-}
-
 // Writes the radio image of a table, as `image_writer::write_radio_image` does.
 #[no_mangle]
 pub extern "C" fn gelfost_write_radio(
@@ -87,7 +56,7 @@ pub extern "C" fn gelfost_write_radio(
         × (now (answer .exit) ≡ ofWritten (writtenAs Radio T (length b)))) ⌝ }
 {
     let written = image_writer::write_radio_image(rows, events, start, cells, marks, out);
-    put_written(answer, written);
+    answers::put_written(answer, written);
 }
 
 // Reads a radio image, as `image_reader::read_radio_image` does.
@@ -105,7 +74,7 @@ pub extern "C" fn gelfost_read_radio(
         × (now (answer .exit) ≡ ofRead read)) ⌝ }
 {
     let read = image_reader::read_radio_image(image, cells, marks);
-    put_read(answer, read);
+    answers::put_read(answer, read);
 }
 
 // Writes a pack, as `pack_writer::write_pack` does.
@@ -122,7 +91,7 @@ pub extern "C" fn gelfost_write_pack(
         × (now (answer .exit) ≡ ofWritten (packed l c m (length b)))) ⌝ }
 {
     let written = pack_writer::write_pack(list, cells, marks, out);
-    put_written(answer, written);
+    answers::put_written(answer, written);
 }
 
 // Reads a pack, as `pack_reader::read_pack` does.
@@ -142,5 +111,60 @@ pub extern "C" fn gelfost_read_pack(
         × (now (answer .exit) ≡ ofUnpacked (answerOf found))) ⌝ }
 {
     let found = pack_reader::read_pack(pack, list, cells, marks);
-    put_unpacked(answer, found);
+    answers::put_unpacked(answer, found);
+}
+
+// Reduces a table, as `reduction::reduce_table` does.
+#[no_mangle]
+pub extern "C" fn gelfost_reduce(
+    offset: u32,
+    mask: u32,
+    rows: usize,
+    events: usize,
+    start: usize,
+    cells: &[u16],
+    marks: &[u8],
+    newcells: &mut [u16],
+    newmarks: &mut [u8],
+    scratch: &mut [u16],
+    answer: &mut [usize; 4],
+)
+    ensures { λ r. ⌜ (let T = tableOf rows events start (now (cells .entry)) (now (marks .entry)) in let k = offsetIn offset in
+        let c = now (newcells .entry) in let m = now (newmarks .entry) in let s = now (scratch .entry) in
+        let v = verdict mask T (length c) (length m) rows (length s) in let a = answerBy v (reduced (weightBy mask) k T .rows) in
+        (now (answer .exit) ≡ ofAnswer a)
+        × Promise v k mask T c m s a (now (newcells .exit)) (now (newmarks .exit)) (now (scratch .exit))) ⌝ }
+{
+    let found = reduction::reduce_table(
+        answers::offset_of(offset),
+        mask,
+        rows,
+        events,
+        start,
+        cells,
+        marks,
+        newcells,
+        newmarks,
+        scratch,
+    );
+    answers::put_answer(answer, found);
+}
+
+// Draws the table of a seed, as `load::generate` does.
+#[no_mangle]
+pub extern "C" fn gelfost_generate(
+    seed: u32,
+    rows: usize,
+    events: usize,
+    cells: &mut [u16],
+    marks: &mut [u8],
+    answer: &mut [usize; 4],
+)
+    ensures { λ r. ⌜ (let c = now (cells .entry) in let m = now (marks .entry) in
+        let v = verdictOfLoad seed rows events (length c) (length m) in
+        (now (answer .exit) ≡ ofVerdict v)
+        × PromiseOfLoad v (load seed rows events) c m v (now (cells .exit)) (now (marks .exit))) ⌝ }
+{
+    let verdict = load::generate(seed, rows, events, cells, marks);
+    answers::put_verdict(answer, verdict);
 }

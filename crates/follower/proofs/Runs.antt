@@ -18,9 +18,10 @@ use Rattle.weights.proofs.Counts.{full-clear}
 use Rattle.rules.specs.Rules.{judged, winch, rowRule, shapeChecks}
 use Rattle.rules.specs.declared.Verdict.the-variants.{Fine}
 use Rattle.rules.proofs.Judged.{judged-append}
-use Rattle.follower.specs.Follow.{begun, cellChecks, advanced, followed, follow, settled, shown}
+use Rattle.following.specs.Moves.{cellChecks, advanced}
+use Rattle.following.specs.declared.Next.{Next}
+use Rattle.follower.specs.Follow.{begun, followed, follow, settled, shown}
 use Rattle.follower.specs.declared.Begun.the-variants as begin
-use Rattle.follower.specs.declared.Next.{Next}
 use Rattle.follower.specs.declared.Shown.the-variants as show
 use Rattle.rules.proofs.Shape.{fine-shape, valid-shape}
 

@@ -1,14 +1,15 @@
--- "The follower": what it holds after beginning and after each event, and what it answers.
+-- "The follower": what it holds after beginning, after an event and after a run, and what it answers.
 use mathlib.Core.Bool.{Bool, false}
 use mathlib.Core.List.{List, [], _∷_, _++_}
-use Prim.Native.Nat.{ℕ, _+_, _*_, min}
+use Prim.Native.Nat.{ℕ}
 use lib.Dec.{eqb, leb}
-use Rattle.tables.specs.Table.{Table, Offset, offset, none, markOf, targetOf, weightBy}
-use Rattle.rules.specs.Rules.{rule, judged, winch, rowRule, maskRule, shapeChecks}
+use Rattle.tables.specs.Table.{Table, Offset, offset, none, markOf}
+use Rattle.rules.specs.Rules.{judged, winch, rowRule, shapeChecks}
 use Rattle.rules.specs.declared.Verdict.{Verdict}
 use Rattle.rules.specs.declared.Verdict.the-variants.{Fine, Refused}
-use Rattle.follower.specs.declared.Follower.{Follower}
-use Rattle.follower.specs.declared.Next.{Next}
+use Rattle.following.specs.Moves.{advanced}
+use Rattle.following.specs.declared.Follower.{Follower}
+use Rattle.following.specs.declared.Next.{Next}
 use Rattle.follower.specs.declared.Begun.{Begun}
 use Rattle.follower.specs.declared.Begun.the-variants as begin
 use Rattle.follower.specs.declared.Shown.{Shown}
@@ -21,27 +22,6 @@ begunBy (Refused number place) start = begin.Refused number place
 
 unfoldable pub begun : Table → Begun
 begun T = begunBy (judged (shapeChecks winch T)) (T .start)
-
--- What an event checks once the table's shape is right: 4 of the follower's row, 16 of the mask of counted events, 11, and 5 for the one cell it uses.
-abbrev pub cellChecks : ℕ → Table → ℕ → ℕ → List Verdict
-cellChecks mask T row event =
-    rowRule (T .rows) row ∷ maskRule mask (T .events) ∷ rule 11 (leb (T .events) event) 0 ∷ rule 5 (leb (T .rows) (targetOf T row event)) (row * T .events + event) ∷ []
-
--- An event checks 1, 2, 3, 4 (of the start, then of the follower's row), 16, 11, and 5.
-abbrev pub eventChecks : ℕ → Table → ℕ → ℕ → List Verdict
-eventChecks mask T row event = shapeChecks winch T ++ cellChecks mask T row event
-
--- A refused event changes nothing.
-abbrev pub stays : ℕ → ℕ → ℕ → ℕ → Next
-stays row count number place = record { row = row; count = count; verdict = Refused number place }
-
--- The event moves the follower and adds what it counts for to its count, which stays at 65,535 once there.
-abbrev pub advancedBy : Verdict → ℕ → Table → ℕ → ℕ → ℕ → Next
-advancedBy Fine mask T row count event = record { row = targetOf T row event; count = min 65535 (count + weightBy mask event); verdict = Fine }
-advancedBy (Refused number place) mask T row count event = stays row count number place
-
-unfoldable pub advanced : ℕ → Table → ℕ → ℕ → ℕ → Next
-advanced mask T row count event = advancedBy (judged (eventChecks mask T row event)) mask T row count event
 
 -- The follower that a step leaves.
 abbrev pub moved : Next → Follower

@@ -1,9 +1,9 @@
 // A follower over more events than its count holds, over runs with events that do not count, and the refusals of an event:
 // 5, 11, 4 and 16. Lines are put into one buffer, each function from a place on.
 use follower::Begun;
-use follower::Follower;
 use follower::Outcome;
 use follower::Shown;
+use following::Follower;
 use rules::Offset;
 use rules::Verdict;
 use text::put_byte;

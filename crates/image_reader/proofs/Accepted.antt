@@ -16,13 +16,13 @@ use Rattle.marks.proofs.Laws.{spare-clear}
 use Rattle.rules.specs.Rules.{judged, winch}
 use Rattle.rules.specs.declared.Verdict.{Verdict}
 use Rattle.rules.specs.declared.Verdict.the-variants.{Fine, Refused}
-use Rattle.image_reader.specs.declared.Read.{Read}
-use Rattle.image_reader.specs.declared.Read.the-variants as read
 use Rattle.marks.specs.Marks.{spareSet}
 use Rattle.rules.specs.declared.Limits.{Limits}
 use Rattle.images.specs.Image.{width, targetAt, imageLength, numberAt, targetsAt, startAt, endAt, marksOf, cellsOf, tableAs}
 use Rattle.images.specs.declared.Form.{Form}
-use Rattle.image_reader.specs.Read.{targetsRule, endChecks, readChecks, readOf, answered}
+use Rattle.image_sections.specs.Read.{targetsRule, endChecks, readChecks, readOf, answered}
+use Rattle.image_sections.specs.declared.Read.{Read}
+use Rattle.image_sections.specs.declared.Read.the-variants as read
 use Rattle.images.proofs.Numbers.{Bytes, take-bytes, drop-bytes}
 use Rattle.rules.proofs.Checks.{unbroken, passed, passed-behind, inside, all-inside}
 use Rattle.automata.proofs.Tests.{clash}

@@ -11,9 +11,10 @@ use Rattle.rules.specs.declared.Limits.{Limits}
 use Rattle.rules.specs.declared.Verdict.{Verdict}
 use Rattle.images.specs.Image.{marksOf, cellsOf}
 use Rattle.images.specs.declared.Form.{Form}
-use Rattle.image_reader.specs.Read.{readOf, roomed, readAs, cellsAs, marksIn}
-use Rattle.image_reader.specs.declared.Read.{Read}
-use Rattle.image_reader.specs.declared.Read.the-variants as read
+use Rattle.image_sections.specs.Read.{readOf}
+use Rattle.image_sections.specs.declared.Read.{Read}
+use Rattle.image_sections.specs.declared.Read.the-variants as read
+use Rattle.image_reader.specs.Read.{roomed, readAs, cellsAs, marksIn}
 
 module _ (alone : Bool) (F : Form) (L : Limits) (few : ℕ → Verdict) (b cells marks : List ℕ) where
   -- The answer r, with what is left in the cells and the mark bytes.

@@ -13,11 +13,11 @@ use Rattle.tables.proofs.Lists.{tabulate-length, tabulate-at}
 use Rattle.rules.specs.Rules.{winch}
 use Rattle.rules.specs.declared.Verdict.{Verdict}
 use Rattle.rules.specs.declared.Verdict.the-variants.{Fine}
-use Rattle.image_reader.specs.declared.Read.the-variants as read
 use Rattle.images.specs.Image.{number, width, targetBytes, targetAt, targets, imageOf, image, imageLength, Fits, numberAt, targetsAt, startAt, endAt, marksOf, cellsOf, tableAs, tableIn}
 use Rattle.images.specs.declared.Form.{Form}
 use Rattle.images.specs.declared.Form.the-variants.{Plain}
-use Rattle.image_reader.specs.Read.{readOf, imageRead}
+use Rattle.image_sections.specs.Read.{readOf, imageRead}
+use Rattle.image_sections.specs.declared.Read.the-variants as read
 use Rattle.images.proofs.Numbers.{Bytes, append-bytes, number-at, number-on}
 use Rattle.images.proofs.Sections.{section-on}
 use Rattle.images.proofs.Targets.{target-near, target-on, width-below}

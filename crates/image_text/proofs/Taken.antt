@@ -16,9 +16,10 @@ use Rattle.rules.proofs.Checks.{unbroken}
 use Rattle.images.specs.Image.{marksOf, cellsOf, tableIn}
 use Rattle.images.specs.declared.Form.the-variants.{Plain}
 use Rattle.images.proofs.Numbers.{Bytes}
-use Rattle.image_reader.specs.Read.{atMost, imageRead, roomed, readBy, cellsIn, marksIn}
-use Rattle.image_reader.specs.declared.Read.{Read}
-use Rattle.image_reader.specs.declared.Read.the-variants as read
+use Rattle.image_sections.specs.Read.{atMost, imageRead}
+use Rattle.image_sections.specs.declared.Read.{Read}
+use Rattle.image_sections.specs.declared.Read.the-variants as read
+use Rattle.image_reader.specs.Read.{roomed, readBy, cellsIn, marksIn}
 use Rattle.image_reader.proofs.RoundTrip.{read-valid}
 use Rattle.text.specs.Text.{refusalLine}
 use Rattle.image_text.specs.ImageText.{textOf, imageText}

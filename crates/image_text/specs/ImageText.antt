@@ -9,9 +9,9 @@ use Rattle.rules.specs.Rules.{winch, maskRule}
 use Rattle.rules.specs.declared.Verdict.{Verdict}
 use Rattle.rules.specs.declared.Verdict.the-variants.{Fine, Refused}
 use Rattle.images.specs.Image.{numberAt, tableIn}
-use Rattle.image_reader.specs.Read.{atMost, imageRead}
-use Rattle.image_reader.specs.declared.Read.{Read}
-use Rattle.image_reader.specs.declared.Read.the-variants as read
+use Rattle.image_sections.specs.Read.{atMost, imageRead}
+use Rattle.image_sections.specs.declared.Read.{Read}
+use Rattle.image_sections.specs.declared.Read.the-variants as read
 use Rattle.text.specs.Text.{refusalLine}
 
 -- The text for an image, as the reader answers it; f gives the text of a table.

@@ -1,6 +1,6 @@
 // Document 01's small examples of refusals 1 to 10 and 12, by the image writer and reader; every truncation of a sound
 // image; and an image written and read back. Lines are put into one buffer, each function from a place on.
-use image_reader::Read;
+use image_sections::Read;
 use image_writer::Written;
 use printing::put_bytes;
 use printing::put_cells;

@@ -9,7 +9,7 @@ use Rattle.tables.specs.Table.{Table, markBytes}
 use Rattle.images.specs.Image.{imageLength, tableAs}
 use Rattle.images.specs.declared.Form.the-variants.{Radio}
 use Rattle.images.proofs.Numbers.{Bytes, drop-bytes}
-use Rattle.image_reader.specs.declared.Read.the-variants as read
+use Rattle.image_sections.specs.declared.Read.the-variants as read
 use Rattle.packs.specs.Pack.{listOf, total}
 use Rattle.pack_reader.specs.Read.{Found, tables, refused, withTable, placeIn, imagesRead}
 use Rattle.pack_reader.specs.Walk.{neededBy, more}

@@ -17,12 +17,12 @@ use Rattle.images.specs.Image as Image
 use Rattle.images.specs.Image.{numberAt}
 use Rattle.images.specs.declared.Form.the-variants.{Radio}
 use Rattle.images.proofs.Numbers.{Bytes, drop-bytes}
+use Rattle.image_sections.specs.Sections.{numberSection}
+use Rattle.image_sections.specs.declared.Section.the-variants.{Got}
+use Rattle.image_sections.proofs.Sections.{Number, number-got}
+use Rattle.image_sections.specs.declared.Read.{Read}
+use Rattle.image_sections.specs.declared.Read.the-variants as read
 use Rattle.image_reader.specs.Read.{cellsAs, marksIn}
-use Rattle.image_reader.specs.Sections.{numberSection}
-use Rattle.image_reader.specs.declared.Section.the-variants.{Got}
-use Rattle.image_reader.proofs.Sections.{Number, number-got}
-use Rattle.image_reader.specs.declared.Read.{Read}
-use Rattle.image_reader.specs.declared.Read.the-variants as read
 use Rattle.packs.specs.Pack.{listOf, cellsOf, marksOf, cellsNeeded, marksNeeded}
 use Rattle.pack_reader.specs.Read.{Found, tables, refused, foundBy, imagesRead, packRead, roomed, unpacked, answerOf, leftIn}
 use Rattle.pack_reader.specs.Walk.{neededBy, tablesOf, partFrom}

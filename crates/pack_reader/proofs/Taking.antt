@@ -16,9 +16,10 @@ use Rattle.images.specs.Image as Image
 use Rattle.images.specs.Image.{imageLength, tableAs}
 use Rattle.images.specs.declared.Form.the-variants.{Radio}
 use Rattle.images.proofs.Numbers.{Bytes, drop-bytes}
-use Rattle.image_reader.specs.Read.{anyRows, answered, roomed, readAs}
-use Rattle.image_reader.specs.declared.Read.{Read}
-use Rattle.image_reader.specs.declared.Read.the-variants as read
+use Rattle.image_sections.specs.Read.{anyRows, answered}
+use Rattle.image_sections.specs.declared.Read.{Read}
+use Rattle.image_sections.specs.declared.Read.the-variants as read
+use Rattle.image_reader.specs.Read.{roomed, readAs}
 use Rattle.packs.specs.Pack.{listOf, cellsOf, marksOf, Sendable}
 use Rattle.packs.proofs.Tables.{list-length, cells-length, marks-length}
 use Rattle.packs.proofs.Images.{sendable-laid}

@@ -12,9 +12,9 @@ use Rattle.rules.specs.Rules.{winch}
 use Rattle.images.specs.Image.{radioImage, imageLength, tableAs}
 use Rattle.images.specs.declared.Form.the-variants.{Radio}
 use Rattle.images.proofs.Numbers.{Bytes, drop-bytes}
-use Rattle.image_reader.specs.Read.{anyRows, readOf}
-use Rattle.image_reader.specs.declared.Read.{Read}
-use Rattle.image_reader.specs.declared.Read.the-variants as read
+use Rattle.image_sections.specs.Read.{anyRows, readOf}
+use Rattle.image_sections.specs.declared.Read.{Read}
+use Rattle.image_sections.specs.declared.Read.the-variants as read
 use Rattle.image_reader.proofs.RoundTrip.{form-valid, read-front}
 use Rattle.image_reader.proofs.Accepted.{accepted}
 use Rattle.packs.specs.Pack.{radioImages, Every, Sendable}

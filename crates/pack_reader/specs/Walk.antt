@@ -5,8 +5,8 @@ use Prim.Native.Nat.{ℕ, _+_, _*_, _≤_}
 use lib.ListN.{length}
 use Rattle.tables.specs.Table.{Table}
 use Rattle.tables.specs.Lists.{over}
-use Rattle.image_reader.specs.declared.Read.{Read}
-use Rattle.image_reader.specs.declared.Read.the-variants as read
+use Rattle.image_sections.specs.declared.Read.{Read}
+use Rattle.image_sections.specs.declared.Read.the-variants as read
 use Rattle.packs.specs.Pack.{listOf, cellsNeeded, marksNeeded}
 use Rattle.pack_reader.specs.Read.{Found, tables, refused, placeIn}
 use Rattle.pack_reader.specs.declared.Needs.{Needs}

@@ -8,11 +8,12 @@ ghost use Rattle.tables.specs.Lists.{over};
 ghost use Rattle.rules.specs.Rules.{winch};
 ghost use Rattle.images.specs.Image as Image;
 ghost use Rattle.images.specs.declared.Form.the-variants.{Radio};
-ghost use Rattle.image_reader.specs.Read.{anyRows, readAs};
+ghost use Rattle.image_sections.specs.Read.{anyRows};
+ghost use Rattle.image_reader.specs.Read.{readAs};
 ghost use Rattle.packs.specs.Pack.{listOf, cellsOf, marksOf};
 ghost use Rattle.pack_reader.specs.Read.{imagesRead, unpacked, answerOf, leftIn};
 ghost use Rattle.pack_reader.specs.Walk.{refusalIn, neededBy, tablesOf, partFrom, Fitting};
-use image_reader::Read;
+use image_sections::Read;
 use images::Form;
 
 // How many tables were read, or the number and place of the first rule broken.
@@ -50,7 +51,7 @@ fn judge(pack: &[u8], count: usize) -> Needs
     let mut marks = 0;
     let mut i = 0;
     while i < count {
-        let read = image_reader::open_image(Form::Radio, &pack[at..]);
+        let read = image_sections::open_image(Form::Radio, &pack[at..]);
         let Read::Table(rows, events, _) = read else {
             return refusal(pack.len(), read);
         };
@@ -136,8 +137,8 @@ pub fn read_pack(pack: &[u8], list: &mut [u16], cells: &mut [u16], marks: &mut [
         × (now (cells .exit) ≡ leftIn found cellsOf given)
         × (now (marks .exit) ≡ leftIn found marksOf bytes)) ⌝ }
 {
-    let head = image_reader::number(pack, 0);
-    let image_reader::Section::Got(count, _) = head else {
+    let head = image_sections::number(pack, 0);
+    let image_sections::Section::Got(count, _) = head else {
         return Unpacked::Refused(8, pack.len());
     };
     if rules::beyond(16, count) {

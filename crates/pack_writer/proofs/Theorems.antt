@@ -16,9 +16,10 @@ use Rattle.image_writer.specs.declared.Written.the-variants as write
 use Rattle.packs.specs.Pack.{tablesIn, listOf, cellsOf, marksOf, total, pack, packLength, Every, Sendable}
 use Rattle.packs.proofs.Tables.{list-length, cells-length, marks-length, tables-back, list-back, cells-back, marks-back, tables-count}
 use Rattle.packs.proofs.Images.{sendable-laid, images-length}
-use Rattle.pack_writer.specs.Write.{packChecks, packedBy, packed, packIn}
-use Rattle.pack_writer.proofs.Judged.{fine-sendable, sendable-sizes, sendable-tables}
-use Rattle.pack_writer.proofs.Accepted.{fine-accepted, accepted-fine}
+use Rattle.pack_rules.specs.Checks.{packChecks}
+use Rattle.pack_rules.proofs.Judged.{fine-sendable, sendable-sizes, sendable-tables}
+use Rattle.pack_rules.proofs.Accepted.{fine-accepted, accepted-fine}
+use Rattle.pack_writer.specs.Write.{packedBy, packed, packIn}
 
 -- Bytes that are the pack of 1 to 16 tables which can be sent, and the list, the cells and the mark bytes in which those lie one after another.
 pub record Packs (Ts : List Table) (bytes list cells marks : List ℕ) : Type 0 where

@@ -1,29 +1,33 @@
--- Images written one after another, each into the rest of the bytes.
+-- Images written one after another, each into the rest of the bytes; with the count before them they are the pack.
 use mathlib.Core.Path.{_≡_, refl, sym, ap, _∙_}
-use mathlib.Core.List.{List}
-use Prim.Native.Nat.{ℕ, _+_, _≤_, _<_}
+use mathlib.Core.List.{List, _++_}
+use Prim.Native.Nat.{ℕ, _+_, _/_, _≤_, _<_}
 use native.Mathlib.Omega.{arith}
 use lib.ListN.{length}
 use Rattle.tables.specs.Table.{Table}
 use Rattle.tables.specs.Lists.{over}
-use Rattle.tables.proofs.Over.{over-over, over-length, rest, withRest, rest-length, rest-over}
-use Rattle.rules.specs.Rules.{judged}
+use Rattle.tables.proofs.Over.{over-over, over-then, over-length, rest, withRest, rest-length, rest-over}
+use Rattle.rules.specs.Rules.{judged, leftBy}
 use Rattle.rules.specs.declared.Verdict.{Verdict}
 use Rattle.rules.specs.declared.Verdict.the-variants.{Fine}
-use Rattle.images.specs.Image.{radioImage, imageLength}
+use Rattle.images.specs.Image.{number, radioImage, imageLength}
 use Rattle.images.specs.declared.Form.the-variants.{Radio}
 use Rattle.images.proofs.Image.{image-length}
 use Rattle.image_writer.specs.Write.{writeChecks, writtenBy, writtenAs, imageBy, imageInAs}
 use Rattle.image_writer.specs.declared.Written.{Written}
 use Rattle.image_writer.specs.declared.Written.the-variants as write
 use Rattle.image_writer.proofs.Writing.{write-fine}
-use Rattle.packs.specs.Pack.{tablesIn, cellsNeeded, marksNeeded, packLength, radioImages, Every, Sendable}
+use Rattle.packs.specs.Pack.{tablesIn, cellsNeeded, marksNeeded, pack, packLength, radioImages, Every, Sendable}
 use Rattle.packs.proofs.Threes.{total-next}
-use Rattle.pack_writer.specs.Steps.{entryAt}
-use Rattle.pack_writer.specs.declared.Entry.{Entry}
-use Rattle.pack_writer.proofs.Sums.{Summed, sum-next, sum-none}
-use Rattle.pack_writer.proofs.Judged.{sendable-image}
-use Rattle.pack_writer.proofs.Left.{Left, left-all, tablesLeft, tableHere, none-over, left-next, here-first}
+use Rattle.packs.proofs.Tables.{tables-count}
+use Rattle.pack_rules.specs.Checks.{packChecks}
+use Rattle.pack_rules.specs.Steps.{entryAt}
+use Rattle.pack_rules.specs.declared.Entry.{Entry}
+use Rattle.pack_rules.proofs.Sums.{Summed, sum-next, sum-none}
+use Rattle.pack_rules.proofs.Judged.{sendable-image}
+use Rattle.pack_rules.proofs.Left.{Left, left-all, tablesLeft, tableHere, none-over, left-next, here-first}
+use Rattle.pack_rules.proofs.Accepted.{Accepted}
+use Rattle.pack_writer.specs.Write.{packedBy, packed, packIn}
 
 -- The image of a table that can be sent, where there is room for it.
 module _ (T : Table) (t : Sendable T) (b : List ℕ) (room : imageLength Radio (T .rows) (T .events) ≤ length b) where
@@ -104,3 +108,19 @@ module _ {list cells marks start out : List ℕ} {at cell mark to : ℕ} (g : Go
               brings = ap (λ (d : List ℕ). over d (to + n) more) put ∙ ap (λ (k : ℕ). over (over out to (radioImage T)) (to + k) more) (as-long ∙ sym long)
                   ∙ over-over out to (radioImage T) fits more ∙ ap (λ (m : List Table). over out to (radioImages m)) (sym (here-first (g .left) h t read)) ∙ g .brings;
             }
+
+-- The count, and then the images, are the pack.
+module _ {list cells marks : List ℕ} {room : ℕ} (a : Accepted list cells marks room) where
+  pub count-then : (out counted exit : List ℕ) → 2 ≤ length out → counted ≡ over out 0 (number (length list / 3)) → exit ≡ over counted 2 (radioImages (tablesIn list cells marks))
+      → exit ≡ over out 0 (pack (tablesIn list cells marks))
+  count-then out counted exit h hc hx =
+      let n : length list / 3 ≡ length (tablesIn list cells marks) = omega (arith, tables-count list cells marks (a .threes)) in
+      over-then out counted exit (number (length list / 3)) (radioImages (tablesIn list cells marks)) 2 hc refl h hx
+      ∙ ap (λ (k : ℕ). over out 0 (number k ++ radioImages (tablesIn list cells marks))) n
+
+-- The writer's two promises, from what its checks come to.
+pub writes : (list cells marks out exit : List ℕ) (r : Written) (v : Verdict) → judged (packChecks list cells marks (length out)) ≡ v → r ≡ packedBy v list
+    → exit ≡ leftBy v out (pack (tablesIn list cells marks)) → (r ≡ packed list cells marks (length out)) × (exit ≡ packIn list cells marks out)
+unfolding packed packIn
+writes list cells marks out exit r v e hr hx =
+    (hr ∙ ap (λ (u : Verdict). packedBy u list) (sym e), hx ∙ ap (λ (u : Verdict). leftBy u out (pack (tablesIn list cells marks))) (sym e))

@@ -1,6 +1,6 @@
 // Radio images and packs: steps at the ends of what a signed byte holds, every refusal of the writers and readers, and a pack of document 01's
 // tables A and F written and read back. Lines are put into one buffer, each function from a place on.
-use image_reader::Read;
+use image_sections::Read;
 use image_writer::Written;
 use pack_reader::Unpacked;
 use printing::put_bytes;

@@ -7,7 +7,7 @@ ghost use Rattle.rules.specs.Rules.{tableOf};
 ghost use Rattle.text.specs.Text.{joined, pairLine, filled, Puts};
 ghost use Rattle.image_text.specs.ImageText.{imageText, maskedText};
 ghost use Rattle.sheet_desk.specs.Printed.{noneLine, sheetLines, sheetText, printed};
-use image_reader::Read;
+use image_sections::Read;
 use offsets::Listed;
 use text::put_byte;
 use text::put_cell;

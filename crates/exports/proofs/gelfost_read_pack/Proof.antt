@@ -1,5 +1,5 @@
 use mathlib.Core.Path.{ap, _∙_}
-use Rattle.exports.specs.Answers.{ofUnpacked}
+use Rattle.answers.specs.Answers.{ofUnpacked}
 use borrow.Author.Needs.{needs}
 use Rattle.exports.proofs.gelfost_read_pack.Statement.{statement}
 use Rattle.exports.proofs.gelfost_read_pack.Tie as tie

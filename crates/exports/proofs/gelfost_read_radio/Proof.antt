@@ -1,8 +1,8 @@
 use mathlib.Core.Path.{ap, _∙_}
 use Rattle.images.specs.declared.Form.the-variants.{Radio}
+use Rattle.image_sections.specs.declared.Read.{Read}
 use Rattle.image_reader.specs.Read.{cellsAs, marksIn}
-use Rattle.image_reader.specs.declared.Read.{Read}
-use Rattle.exports.specs.Answers.{ofRead}
+use Rattle.answers.specs.Answers.{ofRead}
 use borrow.Author.Needs.{needs}
 use Rattle.exports.proofs.gelfost_read_radio.Statement.{statement}
 use Rattle.exports.proofs.gelfost_read_radio.Tie as tie

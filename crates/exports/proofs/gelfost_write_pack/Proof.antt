@@ -1,5 +1,5 @@
 use mathlib.Core.Path.{ap, _∙_}
-use Rattle.exports.specs.Answers.{ofWritten}
+use Rattle.answers.specs.Answers.{ofWritten}
 use borrow.Author.Needs.{needs}
 use Rattle.exports.proofs.gelfost_write_pack.Statement.{statement}
 use Rattle.exports.proofs.gelfost_write_pack.Tie as tie

@@ -1,4 +1,4 @@
--- `follower::step` meets its contract: a walk of its MIR, by hand. The borrow is opened, the two numbers are read, `advance` is called on them, the mask and the table, both fields are stored, and the borrow is closed at the new record.
+-- `follower::step` meets its contract: a walk of its MIR, by hand. The borrow is opened, the two numbers are read, `following::advance` is called on them, the mask and the table, both fields are stored, and the borrow is closed at the new record.
 -- All that the proof knows of `advance` is that it meets its contract. There is no branch: on a refusal `advance` hands back the numbers that it was given.
 use mathlib.Core.Path.{_≡_, refl, ap}
 use Prim.Native.Nat.{ℕ, _<_, _^_}
@@ -45,17 +45,18 @@ use denote.Signature.{plain, shrSliceOf}
 use Rattle.rules.specs.Rules.{tableOf}
 use Rattle.rules.proofs.Verdict as Vd
 use Rattle.rules.proofs.Verdict.Laws as Vd′
-use Rattle.follower.specs.Follow.{advanced, moved}
-use Rattle.follower.specs.declared.Follower.{Follower}
-use Rattle.follower.specs.declared.Next.{Next}
-use Rattle.follower.proofs.Follower as T
-use Rattle.follower.proofs.Follower.Laws as T′
-use Rattle.follower.proofs.Next as N
-use Rattle.follower.proofs.Next.Laws as N′
-use Rattle.follower.proofs.advance as advance
-use Rattle.follower.proofs.advance.Symbol as advance-def
-use Rattle.follower.proofs.advance.Symbol.{name as #advance}
-use Rattle.follower.proofs.advance.Met as advance-thm
+use Rattle.following.specs.Moves.{advanced}
+use Rattle.following.specs.declared.Follower.{Follower}
+use Rattle.following.specs.declared.Next.{Next}
+use Rattle.following.proofs.Follower as T
+use Rattle.following.proofs.Follower.Laws as T′
+use Rattle.following.proofs.Next as N
+use Rattle.following.proofs.Next.Laws as N′
+use Rattle.following.proofs.advance as advance
+use Rattle.following.proofs.advance.Symbol as advance-def
+use Rattle.following.proofs.advance.Symbol.{name as #advance}
+use Rattle.following.proofs.advance.Met as advance-thm
+use Rattle.follower.specs.Follow.{moved}
 use Rattle.follower.proofs.step.Key.{name as #step}
 use Rattle.follower.proofs.step as f
 use Rattle.follower.proofs.step.Statement as stated
@@ -204,4 +205,4 @@ step-spec 𝓤 H 𝓜 𝓖 𝓡 =
     entered 𝓤 H (tripleOf 𝓤 H (𝓖 .A) f.signature (f.spec 𝓤 H (𝓖 .A) (𝓜 .mem) (𝓡 .run)))
     (tables 𝓤 H 𝓜 𝓡 code.env .C) (tables 𝓤 H 𝓜 𝓡 code.env .Λ) #step code.function (code.unfolded 𝓤 H 𝓜 𝓡)
     (step-meets 𝓤 H (𝓖 .A) (givenOf 𝓤 H 𝓜 𝓖) (𝓜 .mem) (𝓡 .run) (tablesOf 𝓤 H 𝓜 (tables 𝓤 H 𝓜 𝓡 code.env))
-    (cited 𝓤 H (Advance 𝓤 H (𝓖 .A) (𝓜 .mem) (𝓡 .run)) 𝓜 𝓡 code.env #advance advance-def.routine code.calls-follower·advance (advance-thm.met 𝓤 H 𝓜 𝓖 𝓡)))
+    (cited 𝓤 H (Advance 𝓤 H (𝓖 .A) (𝓜 .mem) (𝓡 .run)) 𝓜 𝓡 code.env #advance advance-def.routine code.calls-following·advance (advance-thm.met 𝓤 H 𝓜 𝓖 𝓡)))

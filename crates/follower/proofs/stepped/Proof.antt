@@ -47,12 +47,13 @@ use Rattle.rules.specs.Rules.{tableOf}
 use Rattle.rules.specs.declared.Verdict.{Verdict}
 use Rattle.rules.proofs.Verdict as Vd
 use Rattle.rules.proofs.Verdict.Laws as Vd′
-use Rattle.follower.specs.Follow.{advanced, moved}
-use Rattle.follower.specs.declared.Follower.{Follower}
-use Rattle.follower.specs.declared.Next.{Next}
+use Rattle.following.specs.Moves.{advanced}
+use Rattle.following.specs.declared.Follower.{Follower}
+use Rattle.following.specs.declared.Next.{Next}
+use Rattle.following.proofs.Follower as T
+use Rattle.following.proofs.Follower.Laws as T′
+use Rattle.follower.specs.Follow.{moved}
 use Rattle.follower.specs.declared.Outcome.{Outcome}
-use Rattle.follower.proofs.Follower as T
-use Rattle.follower.proofs.Follower.Laws as T′
 use Rattle.follower.proofs.Outcome as Oc
 use Rattle.follower.proofs.Outcome.Laws as Oc′
 use Rattle.follower.proofs.step as step

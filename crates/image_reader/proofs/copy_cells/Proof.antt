@@ -10,6 +10,7 @@ use Rattle.images.specs.Image as Image
 use Rattle.images.specs.Image.{targetAt, cellsAt}
 use Rattle.images.proofs.Targets.{width-most, width-below}
 use native.Mathlib.Omega.{arith}
+use borrow.Author.Needs.{needs}
 use Rattle.image_reader.proofs.copy_cells.Statement.{statement}
 use Rattle.image_reader.proofs.copy_cells.Tie as tie
 
@@ -34,11 +35,6 @@ add-target : tie.Need-add-target Inv-loop μ-loop
 add-target c =
     let a = c .before .before .before .before .before .args in
     record { fits = rw (c .before .before .width .ensures) (omega (arith, width-below (a .form) (c .before .loop .i) (a .count) (omega arith))) }
-
-target-requires : tie.Need-target-requires Inv-loop μ-loop
-target-requires c κs =
-    let a = c .before .before .before .before .before .args in
-    rw (c .before .before .width .ensures) (omega (arith, width-below (a .form) (c .before .loop .i) (a .count) (omega arith)))
 
 cast-cells : tie.Need-cast-cells Inv-loop μ-loop
 cast-cells c =
@@ -82,7 +78,7 @@ copy-cells-spec =
     cast-target
     mul-target
     add-target
-    target-requires
+    (λ c κs. search needs)
     cast-cells
     (λ c. omega arith)
     (λ c. omega arith)

@@ -6,11 +6,10 @@ use lib.ListN.{length, take, drop}
 use Rattle.tables.specs.Table.{markBytes}
 use Rattle.tables.specs.Lists.{over}
 use Rattle.automata.proofs.Tests.{or-left, or-right}
-use Rattle.images.specs.Image as Image
 use Rattle.images.specs.Image.{cellsAt, targetsAt}
-use Rattle.image_reader.specs.Read.{atMost, readOf}
-use Rattle.image_reader.specs.declared.Read.the-variants.{Table}
-use Rattle.image_reader.proofs.Order.{image-order}
+use Rattle.image_sections.specs.Read.{atMost, readOf}
+use Rattle.image_sections.specs.declared.Read.the-variants.{Table}
+use Rattle.image_sections.proofs.Order.{image-order}
 use Rattle.image_reader.proofs.Accepted.{read-holds}
 use Rattle.image_reader.proofs.Reading.{reads-refused, reads-short, reads-table}
 use native.Mathlib.Omega.{arith}

@@ -2,9 +2,10 @@ use mathlib.Core.Path.{ap, _∙_}
 use lib.ListN.{length}
 use Rattle.rules.specs.Rules.{winch}
 use Rattle.rules.specs.declared.Limits.{Limits}
-use Rattle.image_reader.specs.declared.Read.{Read}
-use Rattle.image_reader.specs.Read.{atMost, roomed, readAs}
-use Rattle.image_reader.proofs.Order.{no-twelve}
+use Rattle.image_sections.specs.declared.Read.{Read}
+use Rattle.image_sections.specs.Read.{atMost}
+use Rattle.image_sections.proofs.Order.{no-twelve}
+use Rattle.image_reader.specs.Read.{roomed, readAs}
 use borrow.Author.Needs.{needs}
 use Rattle.image_reader.proofs.read_form.Statement.{statement}
 use Rattle.image_reader.proofs.read_form.Tie as tie

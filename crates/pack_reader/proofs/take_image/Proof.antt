@@ -7,7 +7,8 @@ use Rattle.rules.specs.Rules.{winch}
 use Rattle.tables.proofs.Over.{rest, rest-is, rest-length}
 use Rattle.images.specs.Image.{cellsOf, marksOf}
 use Rattle.images.specs.declared.Form.the-variants.{Radio}
-use Rattle.image_reader.specs.Read.{anyRows, readAs}
+use Rattle.image_sections.specs.Read.{anyRows}
+use Rattle.image_reader.specs.Read.{readAs}
 use Rattle.pack_reader.specs.Walk.{partFrom}
 use Rattle.pack_reader.proofs.Reading.{rest-from, cells-part, marks-part}
 use borrow.Author.Needs.{needs}

@@ -4,7 +4,7 @@ use native.Mathlib.Numerals.{add-one}
 use lib.ListN.{drop}
 use Rattle.images.specs.Image.{cellsOf, marksOf}
 use Rattle.images.specs.declared.Form.the-variants.{Radio}
-use Rattle.image_reader.specs.declared.Read.{Read}
+use Rattle.image_sections.specs.declared.Read.{Read}
 use Rattle.pack_reader.specs.Walk.{partFrom}
 use Rattle.pack_reader.proofs.Taking.{Taking, taking-begin, roomed-table, image-inside, list-room, cells-room, marks-room, few-rows, few-events, start-in, taking-next, taking-never, taking-end}
 use native.Mathlib.Omega.{arith}

@@ -1,6 +1,6 @@
 use Prim.Native.Nat.{_-_}
 use lib.ListN.{length}
-use Rattle.pack_writer.proofs.Left.{cells-fit, marks-fit}
+use Rattle.pack_rules.proofs.Left.{cells-fit, marks-fit}
 use Rattle.pack_writer.proofs.Writing.{Going, going-all, going-none, never-refused, ends-within, going-next}
 use native.Mathlib.Omega.{arith}
 use Rattle.pack_writer.proofs.put_images.Statement.{statement}

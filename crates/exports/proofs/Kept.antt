@@ -1,0 +1,21 @@
+-- Promises whose answer goes out as numbers: they hold of the answer that the definition gives.
+use mathlib.Core.Path.{_≡_, subst}
+use mathlib.Core.List.{List}
+use Prim.Native.Nat.{ℕ}
+use Rattle.tables.specs.Table.{Table, Offset, weightBy}
+use Rattle.tables.specs.Reduction.{reduced}
+use Rattle.rules.specs.declared.Verdict.{Verdict}
+use Rattle.reduction.specs.declared.Answer.{Answer}
+use Rattle.reduction.specs.Reduce.{answerBy, Promise}
+use Rattle.load.specs.Load.{Promise as PromiseOfLoad}
+
+-- The reducer's, with the offset as it was given.
+pub reduce-kept : (v : Verdict) (k j : Offset) (mask : ℕ) (T : Table) (c m s : List ℕ) (r : Answer) (c′ m′ s′ : List ℕ) → k ≡ j → Promise v k mask T c m s r c′ m′ s′
+    → let a = answerBy v (reduced (weightBy mask) j T .rows) in (r ≡ a) × Promise v j mask T c m s a c′ m′ s′
+reduce-kept v k j mask T c m s r c′ m′ s′ e p =
+    let q : Promise v j mask T c m s r c′ m′ s′ = subst (λ (o : Offset). Promise v o mask T c m s r c′ m′ s′) e p in
+    (q .answers, subst (λ (a : Answer). Promise v j mask T c m s a c′ m′ s′) (q .answers) q)
+
+-- The generator's.
+pub load-kept : (v : Verdict) (T : Table) (c m : List ℕ) (r : Verdict) (c′ m′ : List ℕ) → PromiseOfLoad v T c m r c′ m′ → (r ≡ v) × PromiseOfLoad v T c m v c′ m′
+load-kept v T c m r c′ m′ p = (p .answers, subst (λ (a : Verdict). PromiseOfLoad v T c m a c′ m′) (p .answers) p)

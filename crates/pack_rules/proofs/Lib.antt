@@ -1,0 +1,5 @@
+pub mod Sums
+pub mod Sizes
+pub mod Judged
+pub mod Left
+pub mod Accepted
