@@ -27,6 +27,14 @@ impl Numbers {
         }
     }
 
+    /// The table again; these numbers are sound.
+    pub fn table(&self) -> Table {
+        let bit = |row: usize| self.marks[row / 8] / 2u8.pow((row % 8) as u32) % 2 == 1;
+        let targets: Vec<usize> = self.cells.iter().map(|&target| target as usize).collect();
+        let marks: Vec<bool> = (0..self.rows).map(bit).collect();
+        Table::new(self.events, self.start, &targets, &marks)
+    }
+
     /// A radio image's length: the mark bytes, a byte for each target, and 8.
     pub fn image_length(&self) -> usize {
         self.marks.len() + self.cells.len() + 8
@@ -54,12 +62,12 @@ pub struct Outcome {
 }
 
 /// What a lent buffer of so many bytes holds before the call.
-fn filled_bytes(length: usize) -> Vec<u8> {
+pub fn filled_bytes(length: usize) -> Vec<u8> {
     (0..length).map(|place| (165 + 29 * place) as u8).collect()
 }
 
 /// The same for 16-bit cells: none is a row, an event count or a row count.
-fn filled_cells(length: usize) -> Vec<u16> {
+pub fn filled_cells(length: usize) -> Vec<u16> {
     (0..length).map(|place| 0xA500 + (place % 241) as u16).collect()
 }
 
@@ -167,11 +175,11 @@ impl Display for Call {
 /// How much of a long list is shown.
 const SHOWN: usize = 3_000;
 
-fn bytes(list: &[u8]) -> String {
+pub fn bytes(list: &[u8]) -> String {
     format!("({}) {}", list.len(), hexadecimal(&list[..list.len().min(SHOWN)]))
 }
 
-fn words(list: &[u16]) -> String {
+pub fn words(list: &[u16]) -> String {
     let shown: Vec<String> = list.iter().take(SHOWN).map(|word| format!("{word:04x}")).collect();
     format!("({}) {}", list.len(), shown.join(" "))
 }
@@ -197,7 +205,8 @@ pub fn compare(functions: &dyn Functions, call: &Call) -> Result<Outcome, String
     Ok(left)
 }
 
-fn first_other<T: PartialEq>(one: &[T], other: &[T]) -> Option<usize> {
+/// The first place at which two lists differ.
+pub fn first_other<T: PartialEq>(one: &[T], other: &[T]) -> Option<usize> {
     if one == other {
         return None;
     }

@@ -1,12 +1,14 @@
 //! An independent reading of document 01 ("Ready tables and their
-//! reduction") and of requests 101, 102 and 104, made to be compared with the
+//! reduction") and of requests 101, 102, 104 and 105, made to be compared with the
 //! product.
 
 pub mod calls;
 pub mod cutter;
 pub mod damage;
+pub mod direct;
 pub mod faulty;
 pub mod judge;
+pub mod load;
 pub mod mistaken;
 pub mod parallel;
 pub mod product;
@@ -16,4 +18,5 @@ pub mod rules;
 pub mod shapes;
 pub mod sheet;
 pub mod small;
+pub mod spoiled;
 pub mod table;

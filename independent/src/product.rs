@@ -1,6 +1,9 @@
-//! The product, called through its six C functions.
+//! The product, called through its eight C functions.
 
+use crate::calls::Numbers;
+use crate::direct::Direct;
 use crate::radio::{Answer, Functions};
+use crate::table::Mask;
 use std::fmt::Debug;
 use std::sync::{Mutex, MutexGuard};
 
@@ -57,6 +60,34 @@ extern "C" {
         marks_len: usize,
         answer: *mut usize,
     );
+    fn gelfost_generate(
+        seed: u32,
+        rows: usize,
+        events: usize,
+        cells: *mut u16,
+        cells_len: usize,
+        marks: *mut u8,
+        marks_len: usize,
+        answer: *mut usize,
+    );
+    fn gelfost_reduce(
+        offset: u32,
+        mask: u32,
+        rows: usize,
+        events: usize,
+        start: usize,
+        cells: *const u16,
+        cells_len: usize,
+        marks: *const u8,
+        marks_len: usize,
+        new_cells: *mut u16,
+        new_cells_len: usize,
+        new_marks: *mut u8,
+        new_marks_len: usize,
+        scratch: *mut u16,
+        scratch_len: usize,
+        answer: *mut usize,
+    );
 }
 
 /// One call at a time: nothing says that the functions may be called twice at
@@ -96,7 +127,7 @@ fn text(function: Function, input: &[u8]) -> Vec<u8> {
     output
 }
 
-/// The product's functions of request 102. Everything is handed to it in copies
+/// The product's functions beside the texts. Everything is handed to it in copies
 /// with guards; so is the answer, whose four numbers hold a pattern before: one
 /// that is not written is seen.
 pub struct Product;
@@ -228,6 +259,90 @@ impl Functions for Product {
     }
 }
 
+impl Direct for Product {
+    fn generate(
+        &self,
+        seed: u32,
+        rows: usize,
+        events: usize,
+        cells: &mut [u16],
+        marks: &mut [u8],
+    ) -> Answer {
+        let (mut c, mut m) = (Guarded::of(cells), Guarded::of(marks));
+        let mut answer = [usize::FILL; 4];
+        let mut a = Guarded::of(&answer);
+        let turn = turn();
+        unsafe {
+            gelfost_generate(
+                seed,
+                rows,
+                events,
+                c.pointer(),
+                cells.len(),
+                m.pointer(),
+                marks.len(),
+                a.pointer(),
+            )
+        }
+        drop(turn);
+        held(
+            [c.back(cells), m.back(marks), a.back(&mut answer)],
+            &[&(seed, rows, events), &cells.len(), &marks.len()],
+        );
+        answer
+    }
+
+    fn reduce(
+        &self,
+        offset: u32,
+        mask: Mask,
+        given: &Numbers,
+        cells: &mut [u16],
+        marks: &mut [u8],
+        scratch: &mut [u16],
+    ) -> Answer {
+        let (mut g, mut h) = (Guarded::of(&given.cells), Guarded::of(&given.marks));
+        let (mut c, mut m) = (Guarded::of(cells), Guarded::of(marks));
+        let mut s = Guarded::of(scratch);
+        let mut answer = [usize::FILL; 4];
+        let mut a = Guarded::of(&answer);
+        let turn = turn();
+        unsafe {
+            gelfost_reduce(
+                offset,
+                mask,
+                given.rows,
+                given.events,
+                given.start,
+                g.pointer(),
+                given.cells.len(),
+                h.pointer(),
+                given.marks.len(),
+                c.pointer(),
+                cells.len(),
+                m.pointer(),
+                marks.len(),
+                s.pointer(),
+                scratch.len(),
+                a.pointer(),
+            )
+        }
+        drop(turn);
+        held(
+            [
+                g.unchanged(&given.cells),
+                h.unchanged(&given.marks),
+                c.back(cells),
+                m.back(marks),
+                s.back(scratch),
+                a.back(&mut answer),
+            ],
+            &[&(offset, mask), given, &cells.len(), &marks.len(), &scratch.len()],
+        );
+        answer
+    }
+}
+
 /// What stands in the guards.
 trait Fill: Copy + PartialEq {
     const FILL: Self;
@@ -301,5 +416,40 @@ fn held<const COUNT: usize>(list: [Held; COUNT], given: &[&dyn Debug]) {
         if let Err(what) = held {
             panic!("the product {what}; given in hexadecimal: {given:x?}");
         }
+    }
+}
+
+#[cfg(test)]
+mod tests {
+    use super::{Fill, Guarded, GUARD};
+
+    /// Each item beside a slice or in it changed: the guards see the first, and the
+    /// comparison with what was given the second.
+    fn changes<T: Fill>(slice: &[T], other: fn(T) -> T) -> usize {
+        let mut all = Guarded::of(slice);
+        assert_eq!(all.unchanged(slice), Ok(()));
+        for place in 0..all.whole.len() {
+            let before = all.whole[place];
+            all.whole[place] = other(before);
+            let inside = (GUARD..GUARD + slice.len()).contains(&place);
+            assert_eq!(all.inner().is_ok(), inside, "place {place}");
+            assert_eq!(all.back(&mut slice.to_vec()).is_ok(), inside, "place {place}");
+            assert!(all.unchanged(slice).is_err(), "place {place}");
+            all.whole[place] = before;
+        }
+        all.whole.len()
+    }
+
+    #[test]
+    fn guards_see_each_change() {
+        let mut tried = 0;
+        for length in [0, 1, 2, 9] {
+            tried += changes(&vec![0x5Au8; length], |byte| byte ^ 1);
+            tried += changes(&vec![u8::FILL; length], |byte| byte ^ 128);
+            tried += changes(&vec![0x5A5Au16; length], |cell| cell ^ 1);
+            tried += changes(&vec![u16::FILL; length], |cell| cell ^ 0x8000);
+            tried += changes(&vec![0usize; length], |number| number ^ 1);
+        }
+        println!("guards: {tried} changes seen");
     }
 }

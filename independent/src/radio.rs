@@ -6,10 +6,10 @@
 //! ends". "A pack's tables lie one after another in lent cells and mark bytes,
 //! with rows, events and start of each in a lent list."
 
-use crate::table::{push_number, refuse, Refusal, Table, Taker};
+use crate::table::{check_size, push_number, refuse, Refusal, Table, Taker};
 
-/// What each of the four functions answers: 0 and up to three values, or a
-/// refusal's number and place; where there is nothing more to say, 0.
+/// What a function answers, one of these four or of direct.rs: 0 and up to three
+/// values, or a refusal's number and place; where there is nothing more to say, 0.
 pub type Answer = [usize; 4];
 
 /// The four functions of the request: the own ones, or the product's.
@@ -92,38 +92,36 @@ impl Functions for Own {
 }
 
 /// "A refusal returns its number and place (0 where none is named)".
-fn answer(result: Result<Answer, Refusal>) -> Answer {
+pub fn answer(result: Result<Answer, Refusal>) -> Answer {
     result.unwrap_or_else(|refusal| [refusal.number, refusal.place, 0, 0])
 }
 
 // The writers.
 
-/// A table as a writer is given it, sound or not.
+/// A table as a writer or the reducer is given it, sound or not.
 #[derive(Clone, Copy)]
-struct Given<'a> {
-    rows: usize,
-    events: usize,
-    start: usize,
-    cells: &'a [u16],
-    marks: &'a [u8],
+pub struct Given<'a> {
+    pub rows: usize,
+    pub events: usize,
+    pub start: usize,
+    pub cells: &'a [u16],
+    pub marks: &'a [u8],
 }
 
 impl Given<'_> {
-    /// 1: "rows are 0 or above 1,024"; 2: "events are 0 or above 32".
-    fn check_size(self) -> Result<(), Refusal> {
-        if self.rows == 0 || self.rows > 1024 {
-            return refuse(1);
-        }
-        if self.events == 0 || self.events > 32 {
-            return refuse(2);
+    /// 3: "the given cells or mark bytes are not the number required".
+    pub fn check_lengths(self) -> Result<(), Refusal> {
+        let (cells, marks) = (self.rows * self.events, self.rows.div_ceil(8));
+        if self.cells.len() != cells || self.marks.len() != marks {
+            return refuse(3);
         }
         Ok(())
     }
 
     /// 4: "the start ... is no row"; 5: "a target is no row; place: first such
-    /// cell"; 6: "a spare mark bit is set"; 14: "a step outside −128 to 127,
-    /// place the first such cell". Cells and mark bytes have the number required.
-    fn check_contents(self) -> Result<(), Refusal> {
+    /// cell"; 6: "a spare mark bit is set". Cells and mark bytes have the number
+    /// required.
+    pub fn check_contents(self) -> Result<(), Refusal> {
         if self.start >= self.rows {
             return refuse(4);
         }
@@ -135,6 +133,11 @@ impl Given<'_> {
                 return refuse(6);
             }
         }
+        Ok(())
+    }
+
+    /// 14: "a step outside −128 to 127, place the first such cell".
+    fn check_steps(self) -> Result<(), Refusal> {
         for place in 0..self.cells.len() {
             if self.step(place) < -128 || self.step(place) > 127 {
                 return Err(Refusal { number: 14, place });
@@ -165,12 +168,10 @@ impl Given<'_> {
 
 /// "Reducer and writer check 1 to 7 in number order", with 14 "between 6 and 7".
 fn radio_image(given: Given) -> Result<Vec<u8>, Refusal> {
-    given.check_size()?;
-    if given.cells.len() != given.rows * given.events || given.marks.len() != given.rows.div_ceil(8)
-    {
-        return refuse(3);
-    }
+    check_size(given.rows, given.events)?;
+    given.check_lengths()?;
     given.check_contents()?;
+    given.check_steps()?;
     let mut bytes = Vec::new();
     given.push_image(&mut bytes);
     Ok(bytes)
@@ -189,7 +190,7 @@ fn pack_image(list: &[u16], cells: &[u16], marks: &[u8]) -> Result<Vec<u8>, Refu
         tables.push(Given { rows, events, start, cells: &[], marks: &[] });
     }
     for table in &tables {
-        table.check_size()?;
+        check_size(table.rows, table.events)?;
     }
     let all_cells: usize = tables.iter().map(|table| table.rows * table.events).sum();
     let all_marks: usize = tables.iter().map(|table| table.rows.div_ceil(8)).sum();
@@ -201,6 +202,7 @@ fn pack_image(list: &[u16], cells: &[u16], marks: &[u8]) -> Result<Vec<u8>, Refu
         (table.cells, cells) = cells.split_at(table.rows * table.events);
         (table.marks, marks) = marks.split_at(table.rows.div_ceil(8));
         table.check_contents()?;
+        table.check_steps()?;
     }
     let mut bytes = Vec::new();
     push_number(&mut bytes, count);
@@ -275,7 +277,7 @@ fn take_image(taker: &mut Taker) -> Result<Table, Refusal> {
 }
 
 /// 7 for cells and mark bytes, then the tables one after another in them.
-fn lay(tables: &[&Table], cells: &mut [u16], marks: &mut [u8]) -> Result<(), Refusal> {
+pub fn lay(tables: &[&Table], cells: &mut [u16], marks: &mut [u8]) -> Result<(), Refusal> {
     let all_cells: Vec<u16> =
         tables.iter().flat_map(|table| &table.targets).map(|&target| target as u16).collect();
     let all_marks: Vec<u8> = tables.iter().flat_map(|table| table.packed()).collect();

@@ -3,7 +3,8 @@
 
 use crate::judge::depths_by_lengths;
 use crate::random::Random;
-use crate::table::{counted, every_event, Mask, Table};
+use crate::rules::{Length, Study};
+use crate::table::{counted, every_event, Mask, Offset, Table};
 
 #[derive(Clone, Copy, Debug, PartialEq, Eq)]
 pub enum Shape {
@@ -206,6 +207,38 @@ pub fn idling(random: &mut Random, table: &Table, mask: Mask) -> Table {
         }
     }
     other
+}
+
+/// Offsets worth trying for a table: the ends, twice the rows and about, and
+/// for some pairs of rows the very offset at which they become similar, and the
+/// one before it.
+pub fn offsets_for(random: &mut Random, study: &Study, wanted: usize) -> Vec<Offset> {
+    let rows = study.table.rows;
+    let mut turns: Vec<usize> = Vec::new();
+    for one in 0..rows {
+        for other in 0..one {
+            let depth = study.depth[one].min(study.depth[other]);
+            if let (Length::Of(distance), Some(Length::Of(depth))) =
+                (study.distance(one, other), depth)
+            {
+                if distance > 0 {
+                    turns.push(distance + depth);
+                }
+            }
+        }
+    }
+    let mut offsets = vec![None, Some(0)];
+    while offsets.len() < wanted {
+        let k = match random.below(6) {
+            0 => 1,
+            1 => random.below(2 * rows + 1),
+            2 => *random.pick(&[2 * rows - 1, 2 * rows, 2 * rows + 1, 65_534]),
+            _ if turns.is_empty() => random.below(rows + 1),
+            _ => *random.pick(&turns) - random.below(2),
+        };
+        offsets.push(Some(k));
+    }
+    offsets
 }
 
 /// A comb, made for sheets: a spine of rows from the start on, each with a tooth,

@@ -254,6 +254,17 @@ pub fn take_mask(input: &[u8]) -> Result<(Mask, &[u8]), Refusal> {
     Ok(((number_of(&head[..2]) + 65_536 * number_of(&head[2..])) as Mask, rest))
 }
 
+/// 1: "rows are 0 or above 1,024"; 2: "events are 0 or above 32".
+pub fn check_size(rows: usize, events: usize) -> Result<(), Refusal> {
+    if rows == 0 || rows > 1024 {
+        return refuse(1);
+    }
+    if events == 0 || events > 32 {
+        return refuse(2);
+    }
+    Ok(())
+}
+
 /// "16, a mask bit at or above the event count is set".
 pub fn check_mask(mask: Mask, events: usize) -> Result<(), Refusal> {
     if (events..32).any(|bit| counted(mask, bit) == 1) {

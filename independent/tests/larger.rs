@@ -8,7 +8,7 @@ use independent::parallel::{spread, Counter};
 use independent::product::reduce_text;
 use independent::random::Random;
 use independent::rules::{Fate, Length, Study};
-use independent::shapes::{with_mask, SHAPES};
+use independent::shapes::{offsets_for, with_mask, SHAPES};
 use independent::table::{Mask, Offset, Table};
 
 /// Checks one table and mask at the offsets; answers how often a row folded into
@@ -67,39 +67,6 @@ fn four_and_five_rows_against_the_cutter() {
     }
 }
 
-/// Offsets worth trying for a table: the ends, twice the rows and about, and
-/// for some pairs of rows the very offset at which they become similar, and the
-/// one before it.
-fn offsets_for(random: &mut Random, given: &Table, mask: Mask, wanted: usize) -> Vec<Offset> {
-    let study = Study::of(given, mask);
-    let rows = given.rows;
-    let mut turns: Vec<usize> = Vec::new();
-    for one in 0..rows {
-        for other in 0..one {
-            let depth = study.depth[one].min(study.depth[other]);
-            if let (Length::Of(distance), Some(Length::Of(depth))) =
-                (study.distance(one, other), depth)
-            {
-                if distance > 0 {
-                    turns.push(distance + depth);
-                }
-            }
-        }
-    }
-    let mut offsets = vec![None, Some(0)];
-    while offsets.len() < wanted {
-        let k = match random.below(6) {
-            0 => 1,
-            1 => random.below(2 * rows + 1),
-            2 => *random.pick(&[2 * rows - 1, 2 * rows, 2 * rows + 1, 65_534]),
-            _ if turns.is_empty() => random.below(rows + 1),
-            _ => *random.pick(&turns) - random.below(2),
-        };
-        offsets.push(Some(k));
-    }
-    offsets
-}
-
 #[test]
 fn up_to_128_rows_and_32_events() {
     // Name, smallest and largest rows, largest events, pieces (each piece is
@@ -123,7 +90,7 @@ fn up_to_128_rows_and_32_events() {
                 let events =
                     if name == "the largest" { most } else { random.between(1, most) };
                 let (given, mask) = with_mask(&mut random, shape, rows, events);
-                let offsets = offsets_for(&mut random, &given, mask, wanted);
+                let offsets = offsets_for(&mut random, &Study::of(&given, mask), wanted);
                 unequal.add(check(&given, mask, &offsets, None));
                 tried.add(1);
             }

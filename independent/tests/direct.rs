@@ -1,0 +1,578 @@
+//! (i) The reducer called directly, with tables of up to 1,024 rows and lent buffers.
+//! - Small tables under every mask, at every offset and with none: the new cells and
+//!   mark bytes are those of rules.rs, and the row count is the least that cutter.rs
+//!   finds by brute force.
+//! - Larger tables of all shapes: as rules.rs.
+//! - The named scratch is 0 afterwards; what is given, and what lies beyond, is
+//!   untouched.
+//! - What breaks a rule is refused in the order 1, 2, 3, 4, 5, 6, 16, 7, and changes
+//!   nothing.
+
+use independent::calls::Numbers;
+use independent::cutter::{count_all, table_number, Cutter};
+use independent::direct::{
+    compare, expect, on_product, Asked, Call, Direct, Fill, Lengths, Own, Report,
+};
+use independent::judge::all_offsets;
+use independent::parallel::spread;
+use independent::product::Product;
+use independent::radio::Answer;
+use independent::random::Random;
+use independent::rules::Study;
+use independent::shapes::{mask, offsets_for, table, with_mask, Shape, SHAPES};
+use independent::small::{all_masks, all_tables, reached_tables};
+use independent::spoiled::{find, REDUCER_FAULTS};
+use independent::table::{every_event, Mask, Offset, Table};
+
+const TOO_SHORT: Answer = [7, 0, 0, 0];
+
+/// What the reducer is given, and lent.
+#[derive(Clone)]
+struct Given {
+    offset: u32,
+    mask: Mask,
+    numbers: Numbers,
+    lent: Lengths,
+}
+
+impl Given {
+    /// A table with what is named for it.
+    fn of(table: &Table, mask: Mask, offset: u32) -> Given {
+        let lent = Lengths::named(table.rows, table.events);
+        Given { offset, mask, numbers: Numbers::of(table), lent }
+    }
+
+    fn call(&self, fill: Fill) -> Call {
+        let Given { offset, mask, ref numbers, lent } = *self;
+        Call { asked: Asked::Reduce { offset, mask, given: numbers.clone() }, lent, fill }
+    }
+
+    /// The call with other lengths lent.
+    fn lending(&self, change: impl Fn(&mut Lengths), fill: Fill) -> Call {
+        let mut call = self.call(fill);
+        change(&mut call.lent);
+        call
+    }
+}
+
+/// An offset as the reducer is told it; none by one of many numbers.
+fn told(offset: Offset, which: usize) -> u32 {
+    const NONE: [u32; 6] = [65_536, 65_537, 65_540, 1 << 17, 1 << 31, u32::MAX];
+    offset.map_or(NONE[which % NONE.len()], |k| k as u32)
+}
+
+// (a) By hand.
+
+/// The cases of document 01, "Tables to try", and of request 104: "With none counted,
+/// A at offset 1 gives one ready row." The new cells and mark byte of each.
+#[test]
+fn cases_of_the_documents() {
+    const N: u32 = 65_536;
+    let a = Table::new(1, 0, &[1, 2, 2], &[true, false, false]);
+    let b = Table::new(2, 0, &[1, 2, 0, 0, 0, 0], &[false, true, false]);
+    let c = Table::new(1, 0, &[1, 2, 3, 3], &[false, true, false, false]);
+    let d = Table::new(2, 3, &[1, 2, 0, 0, 0, 0, 0, 0], &[false, true, false, false]);
+    let e = [true, false].map(|mark| Table::new(2, 0, &[0, 0], &[mark]));
+    let f = Table::new(1, 0, &[0, 0], &[false, true]);
+    // Table, mask, offsets, new cells, new mark byte.
+    let every = [0, 1, 2, 3, 6, 65_535, N];
+    let cases: [(&Table, Mask, &[u32], &[u16], u8); 11] = [
+        (&a, 1, &[0], &[1, 1], 0b01),
+        (&a, 1, &[1, 2, 65_535, N, N + 1, u32::MAX], &[0], 0),
+        (&a, 0, &[1], &[0], 1),
+        (&b, 3, &every, &[1, 2, 0, 0, 0, 0], 0b010),
+        (&c, 1, &[1], &[1, 2, 2], 0b010),
+        (&c, 1, &[2, 3, 65_535, N], &[0], 0),
+        (&d, 3, &[0], &[1, 1, 2, 0, 1, 1], 0b100),
+        (&d, 3, &[1, 2, 8, 65_535, N], &[1, 1, 0, 2, 1, 1], 0b001),
+        (&e[0], 3, &every, &[0, 0], 1),
+        (&e[1], 3, &every, &[0, 0], 0),
+        (&f, 1, &every, &[0], 0),
+    ];
+    let mut tried = 0;
+    for (table, mask, offsets, cells, marks) in cases {
+        for &offset in offsets {
+            for fill in Fill::ALL {
+                let call = Given::of(table, mask, offset).call(fill);
+                let rows = cells.len() / table.events;
+                for left in [call.by(&Product), call.by(&Own::default())] {
+                    assert_eq!(left.answer, [0, rows, 0, 0], "{call}");
+                    assert_eq!(left.cells[..cells.len()], *cells, "{call}");
+                    assert_eq!(left.marks, [marks], "{call}");
+                    assert!(left.scratch.iter().all(|&cell| cell == 0), "{call}");
+                }
+                tried += 1;
+            }
+        }
+    }
+    println!("product: {tried} calls with the tables of the documents");
+}
+
+/// "Refused, and on what", the small examples, and the edges: "1,024 rows pass, 1,025
+/// give 1; 32 events pass, 33 give 2; four rows need 22 scratch cells".
+fn small_examples(functions: &dyn Direct, report: Report) {
+    let numbers = |rows: usize, events: usize, cells: &[u16], marks: &[u8]| Numbers {
+        rows,
+        events,
+        start: 0,
+        cells: cells.to_vec(),
+        marks: marks.to_vec(),
+    };
+    let check = |numbers: Numbers, mask: Mask, lent: Lengths, answer: Answer| {
+        let call = Given { offset: 0, mask, numbers, lent }.call(Fill::Pattern);
+        report(expect(functions, &Own::default(), &call, answer));
+    };
+    let some = Lengths { cells: 99, marks: 9, scratch: 99 };
+    check(numbers(0, 1, &[], &[]), 1, some, [1, 0, 0, 0]);
+    check(numbers(1, 33, &[0; 33], &[0]), 1, some, [2, 0, 0, 0]);
+    check(numbers(2, 2, &[0; 5], &[0]), 1, some, [3, 0, 0, 0]);
+    check(Numbers { start: 2, ..numbers(2, 1, &[0; 2], &[0]) }, 1, some, [4, 0, 0, 0]);
+    check(numbers(2, 1, &[1, 2], &[0]), 1, some, [5, 1, 0, 0]);
+    check(numbers(2, 1, &[0; 2], &[4]), 1, some, [6, 0, 0, 0]);
+    check(numbers(2, 1, &[0; 2], &[0]), 2, some, [16, 0, 0, 0]);
+    let four = |scratch: usize| Lengths { cells: 4, marks: 1, scratch };
+    check(numbers(4, 1, &[0; 4], &[0]), 1, four(21), TOO_SHORT);
+    check(numbers(4, 1, &[0; 4], &[0]), 1, four(22), [0, 1, 0, 0]);
+    // 7 and not 1: largest_tables lends enough.
+    check(numbers(1024, 1, &[0; 1024], &[255; 128]), 1, some, TOO_SHORT);
+    check(numbers(1025, 1, &[0; 1025], &[0; 129]), 1, some, [1, 0, 0, 0]);
+    check(numbers(1, 32, &[0; 32], &[1]), Mask::MAX, some, [0, 1, 0, 0]);
+}
+
+#[test]
+fn small_examples_of_the_documents() {
+    on_product("small examples of refusals and edges", small_examples);
+}
+
+// (b) Small tables against the cutter.
+
+/// A table under a mask at every offset and with none: the row counts are these.
+/// Then longer buffers, and one of those too short.
+fn check_small(functions: &dyn Direct, report: Report, given: &Table, mask: Mask, least: &[usize]) {
+    let own = Own::default();
+    // Any number that differs from table to table.
+    let number = given.targets.iter().fold(mask as usize, |sum, target| 3 * sum + target);
+    let fill = |more: usize| Fill::ALL[(number + more) % 3];
+    let offsets = all_offsets(given.rows);
+    for (place, &offset) in offsets.iter().enumerate() {
+        let call = Given::of(given, mask, told(offset, number)).call(fill(place));
+        report(expect(functions, &own, &call, [0, least[place], 0, 0]));
+    }
+    let place = number % offsets.len();
+    let asked = Given::of(given, mask, told(offsets[place], number));
+    let longer = asked.lending(
+        |lent| {
+            lent.cells += 1 + number % 5;
+            lent.marks += 1 + number % 2;
+            lent.scratch += 1 + number % 9;
+        },
+        fill(1),
+    );
+    report(expect(functions, &own, &longer, [0, least[place], 0, 0]));
+    let shorter = asked.lending(|lent| *lent = one_short(*lent, number), fill(2));
+    report(expect(functions, &own, &shorter, TOO_SHORT));
+}
+
+/// One of the lengths one less.
+fn one_short(mut lent: Lengths, which: usize) -> Lengths {
+    match which % 3 {
+        0 => lent.cells -= 1,
+        1 => lent.marks -= 1,
+        _ => lent.scratch -= 1,
+    }
+    lent
+}
+
+/// All tables of 1 to 3 rows and 1 to 2 events under every mask, and a slice of those
+/// of 4 rows and 2 events in which all rows are reached.
+#[test]
+fn small_tables_against_the_cutter() {
+    on_product("small tables directly, against brute force", |functions, report| {
+        for (rows, events) in [(1, 1), (2, 1), (3, 1), (1, 2), (2, 2), (3, 2), (4, 2)] {
+            let cutter = Cutter::new(rows, events);
+            let offsets = all_offsets(rows);
+            let check = |given: &Table| {
+                for mask in all_masks(events) {
+                    let least = cutter.least(given, mask, &offsets);
+                    check_small(functions, report, given, mask, &least);
+                }
+            };
+            match (rows, events) {
+                (4, 2) => reached_tables([5, 40], rows, events, 320_000, check),
+                _ => all_tables(rows, events, check),
+            };
+        }
+    });
+}
+
+// (c) Larger tables.
+
+/// A table under a mask at these offsets, in buffers exact, longer or too short.
+fn check_larger(
+    functions: &dyn Direct,
+    report: Report,
+    random: &mut Random,
+    study: Study,
+    offsets: &[Offset],
+) {
+    let (given, mask) = (study.table.clone(), study.mask);
+    let own = Own::of(study);
+    for &offset in offsets {
+        let asked = Given::of(&given, mask, told(offset, random.below(6)));
+        let more = [(); 3].map(|_| *random.pick(&[0, 0, 1, 50]));
+        let call = asked.lending(
+            |lent| {
+                lent.cells += more[0];
+                lent.marks += more[1];
+                lent.scratch += more[2];
+            },
+            *random.pick(&Fill::ALL),
+        );
+        report(compare(functions, &own, &call).and_then(|left| match left.answer[0] {
+            0 => Ok(0),
+            _ => Err(format!("a sound table is refused: {call}")),
+        }));
+    }
+    let asked = Given::of(&given, mask, told(offsets[0], 0));
+    for which in 0..3 {
+        let call = asked.lending(|lent| *lent = one_short(*lent, which), *random.pick(&Fill::ALL));
+        report(expect(functions, &own, &call, TOO_SHORT));
+    }
+}
+
+fn larger_tables(functions: &dyn Direct, report: Report, part: usize) {
+    // Smallest and largest rows, smallest and largest events, pieces (each piece is
+    // one table of each shape), offsets for each table.
+    let kinds = [
+        ([1, 12], [1, 4], 150, 6),
+        ([7, 17], [1, 3], 100, 6),
+        ([13, 48], [1, 8], 60, 5),
+        ([49, 128], [1, 3], 16, 5),
+        ([100, 128], [16, 32], 2, 4),
+        ([129, 300], [1, 3], 2, 4),
+    ];
+    for (kind, (rows, events, pieces, wanted)) in kinds.into_iter().enumerate() {
+        spread(pieces / part, |piece| {
+            let mut random = Random::new(330_000 + 1_000 * kind as u64 + piece as u64);
+            for shape in SHAPES {
+                let rows = random.between(rows[0], rows[1]);
+                let events = random.between(events[0], events[1]);
+                let (given, mask) = with_mask(&mut random, shape, rows, events);
+                let study = Study::of(&given, mask);
+                let offsets = offsets_for(&mut random, &study, wanted);
+                check_larger(functions, report, &mut random, study, &offsets);
+            }
+        });
+    }
+}
+
+#[test]
+fn larger_tables_of_all_shapes() {
+    on_product("larger tables directly, up to 300 rows", |f, report| larger_tables(f, report, 1));
+}
+
+/// More rows than a program takes, up to the largest table.
+#[test]
+fn largest_tables() {
+    on_product("the largest tables directly", |functions, report| {
+        let kinds = [
+            (Shape::Chain, 1024, 1),
+            (Shape::Falling, 1024, 2),
+            (Shape::Copies, 1023, 1),
+            (Shape::Echo, 700, 2),
+            (Shape::Layers, 1024, 32),
+        ];
+        spread(kinds.len(), |piece| {
+            let (shape, rows, events) = kinds[piece];
+            let mut random = Random::new(340_000 + piece as u64);
+            let (given, mask) = with_mask(&mut random, shape, rows, events);
+            let study = Study::of(&given, mask);
+            let offsets = offsets_for(&mut random, &study, 4);
+            check_larger(functions, report, &mut random, study, &offsets);
+        });
+    });
+}
+
+// (d) Offsets, masks and lengths.
+
+/// Every number that may be told as an offset, up to three times the rows; then the
+/// last offsets and many numbers that are none.
+fn all_numbers(functions: &dyn Direct, report: Report) {
+    for (number, shape) in SHAPES.into_iter().enumerate() {
+        let mut random = Random::new(341_000 + number as u64);
+        let (given, mask) = with_mask(&mut random, shape, 12, 2);
+        let own = Own::default();
+        let ends = [1000, 32_767, 32_768, 65_534, 65_535];
+        let none =
+            (16..32).flat_map(|bit| [1 << bit, (1 << bit) + 1, (1 << bit) + 12, u32::MAX << bit]);
+        for offset in (0..36).chain(ends).chain(none) {
+            let call = Given::of(&given, mask, offset).call(Fill::ALL[offset as usize % 3]);
+            report(compare(functions, &own, &call).map(|left| left.answer[0]));
+        }
+    }
+}
+
+#[test]
+fn numbers_told_as_offsets() {
+    on_product("numbers told as offsets", all_numbers);
+}
+
+/// Each bit of a mask alone, all from it on and all below it, with each number of
+/// events, or each so many: "16, a mask bit at or above the event count is set".
+fn each_mask_bit(functions: &dyn Direct, report: Report, step: usize) {
+    let mut random = Random::new(342_000);
+    for events in (1..=32).step_by(step) {
+        let given = table(&mut random, Shape::Falling, 5, events);
+        for bit in 0..32 {
+            for mask in [1 << bit, Mask::MAX << bit, !(Mask::MAX << bit)] {
+                let call = Given::of(&given, mask, 2).call(Fill::ALL[bit % 3]);
+                let high = mask & !every_event(events) != 0;
+                let checked = compare(functions, &Own::default(), &call);
+                report(checked.and_then(|left| match left.answer[0] {
+                    rule if rule == 16 * high as usize => Ok(rule),
+                    rule => Err(format!("answered {rule}: {call}")),
+                }));
+            }
+        }
+    }
+}
+
+#[test]
+fn each_bit_of_a_mask() {
+    on_product("each bit of a mask directly", |f, report| each_mask_bit(f, report, 1));
+}
+
+/// Every mixture of lengths about the named ones, and each alone so long that its low
+/// 16 bits are 0; in every fill.
+fn lent_lengths(functions: &dyn Direct, report: Report) {
+    let mut random = Random::new(343_000);
+    for (rows, events) in [(1, 1), (4, 1), (8, 2), (9, 3), (40, 2)] {
+        let (given, mask) = with_mask(&mut random, Shape::Falling, rows, events);
+        let own = Own::default();
+        let asked = Given::of(&given, mask, rows as u32 / 2);
+        let new_rows = own.reduced(&given, mask, Some(rows / 2)).rows;
+        let all = asked.lent;
+        let long = 65_536;
+        let mut list = vec![
+            Lengths { cells: long, ..all },
+            Lengths { marks: long, ..all },
+            Lengths { scratch: long, ..all },
+        ];
+        let about = |named: usize| [0, named - 1, named, named + 1, named + 99];
+        for cells in about(all.cells) {
+            for marks in about(all.marks) {
+                list.extend(about(all.scratch).map(|scratch| Lengths { cells, marks, scratch }));
+            }
+        }
+        for (lent, fill) in list.iter().flat_map(|lent| Fill::ALL.map(|fill| (*lent, fill))) {
+            let short =
+                lent.cells < all.cells || lent.marks < all.marks || lent.scratch < all.scratch;
+            let answer = if short { TOO_SHORT } else { [0, new_rows, 0, 0] };
+            let call = asked.lending(|other| *other = lent, fill);
+            report(expect(functions, &own, &call, answer));
+        }
+    }
+}
+
+#[test]
+fn lent_buffers_of_every_length() {
+    on_product("lent buffers of every length directly", lent_lengths);
+}
+
+// (e) Refusals.
+
+/// The rules in the order in which they are judged: 16 is "straight after 6".
+const ORDER: [usize; 8] = [1, 2, 3, 4, 5, 6, 16, 7];
+
+/// Something wrong: the rule that it breaks, and how; that answers the place, or
+/// nothing where it cannot be done to this table.
+type Wrong = (usize, fn(&mut Given) -> Option<usize>);
+
+/// Done to one table, those farther down come first: so they find the right numbers.
+const WRONG: [Wrong; 46] = [
+    (1, |g| set(&mut g.numbers.rows, 0)),
+    (1, |g| set(&mut g.numbers.rows, 1025)),
+    (1, |g| add(&mut g.numbers.rows, 1 << 16)),
+    (1, |g| add(&mut g.numbers.rows, 1 << 32)),
+    (1, |g| add(&mut g.numbers.rows, 1 << 63)),
+    (1, |g| set(&mut g.numbers.rows, usize::MAX)),
+    (2, |g| set(&mut g.numbers.events, 0)),
+    (2, |g| set(&mut g.numbers.events, 33)),
+    (2, |g| add(&mut g.numbers.events, 1 << 16)),
+    (2, |g| add(&mut g.numbers.events, 1 << 32)),
+    (2, |g| add(&mut g.numbers.events, 1 << 63)),
+    (2, |g| set(&mut g.numbers.events, usize::MAX)),
+    (3, |g| resized(&mut g.numbers.cells, -1)),
+    (3, |g| resized(&mut g.numbers.cells, 1)),
+    (3, |g| resized(&mut g.numbers.cells, 65_536)),
+    (3, |g| resized(&mut g.numbers.marks, -1)),
+    (3, |g| resized(&mut g.numbers.marks, 1)),
+    (3, |g| resized(&mut g.numbers.marks, 65_536)),
+    (3, |g| set(&mut g.numbers.cells, vec![])),
+    (3, |g| set(&mut g.numbers.marks, vec![])),
+    (3, |g| (g.numbers.rows < 1024).then(|| g.numbers.rows += 1).map(|()| 0)),
+    (3, |g| (g.numbers.events < 32).then(|| g.numbers.events += 1).map(|()| 0)),
+    (4, |g| set(&mut g.numbers.start, g.numbers.rows)),
+    (4, |g| set(&mut g.numbers.start, 65_535)),
+    (4, |g| add(&mut g.numbers.start, 1 << 16)),
+    (4, |g| add(&mut g.numbers.start, 1 << 32)),
+    (4, |g| set(&mut g.numbers.start, usize::MAX)),
+    (5, |g| no_row(g, 0, 0)),
+    (5, |g| no_row(g, g.numbers.cells.len() - 1, 0)),
+    (5, |g| no_row(g, g.numbers.cells.len() / 2, 65_535)),
+    (5, |g| {
+        // Two or three such cells: the first is the place.
+        let (third, last) = (g.numbers.cells.len() / 3, g.numbers.cells.len() - 1);
+        no_row(g, last, 3);
+        no_row(g, third * 2, 1);
+        no_row(g, third, 2)
+    }),
+    (6, |g| spare_bits(g, 1 << (g.numbers.rows % 8))),
+    (6, |g| spare_bits(g, 1 << 7)),
+    (6, |g| spare_bits(g, 255 << (g.numbers.rows % 8))),
+    (16, |g| high_bits(g, 1 << (g.numbers.events % 32))),
+    (16, |g| high_bits(g, 1 << 31)),
+    (16, |g| high_bits(g, Mask::MAX)),
+    (7, |g| add(&mut g.lent.cells, usize::MAX)),
+    (7, |g| add(&mut g.lent.marks, usize::MAX)),
+    (7, |g| add(&mut g.lent.scratch, usize::MAX)),
+    (7, |g| set(&mut g.lent.cells, 0)),
+    (7, |g| set(&mut g.lent.marks, 0)),
+    (7, |g| set(&mut g.lent.scratch, 0)),
+    (7, |g| set(&mut g.lent.scratch, g.numbers.rows * (g.numbers.rows - 1) / 2)),
+    (7, |g| set(&mut g.lent.scratch, 4 * g.numbers.rows - 1)),
+    (7, |g| set(&mut g.lent, Lengths { cells: 0, marks: 0, scratch: 0 })),
+];
+
+fn set<T>(item: &mut T, value: T) -> Option<usize> {
+    *item = value;
+    Some(0)
+}
+
+/// Adds to a number; the greatest one takes 1 away.
+fn add(number: &mut usize, more: usize) -> Option<usize> {
+    *number = number.wrapping_add(more);
+    Some(0)
+}
+
+fn resized<T: Clone + Default>(list: &mut Vec<T>, more: isize) -> Option<usize> {
+    list.resize(list.len().wrapping_add_signed(more), T::default());
+    Some(0)
+}
+
+/// A target that is so much above the last row.
+fn no_row(given: &mut Given, cell: usize, above: usize) -> Option<usize> {
+    given.numbers.cells[cell] = (given.numbers.rows + above).min(65_535) as u16;
+    Some(cell)
+}
+
+fn spare_bits(given: &mut Given, bits: u32) -> Option<usize> {
+    if given.numbers.rows % 8 == 0 {
+        return None;
+    }
+    *given.numbers.marks.last_mut()? |= bits as u8;
+    Some(0)
+}
+
+fn high_bits(given: &mut Given, bits: Mask) -> Option<usize> {
+    if given.numbers.events == 32 {
+        return None;
+    }
+    given.mask |= bits;
+    Some(0)
+}
+
+/// A sound call with these things wrong, of a list of [`WRONG`] in its order, not two
+/// of one rule: the first in [`ORDER`] gives the answer.
+fn with_wrongs(
+    functions: &dyn Direct,
+    report: Report,
+    sound: &Given,
+    wrongs: &[usize],
+    fill: Fill,
+) {
+    let mut given = sound.clone();
+    let mut answer = None;
+    for &wrong in wrongs.iter().rev() {
+        let (rule, change) = WRONG[wrong];
+        if let Some(place) = change(&mut given) {
+            answer = Some([rule, place, 0, 0]);
+        }
+    }
+    if let Some(answer) = answer {
+        report(expect(functions, &Own::default(), &given.call(fill), answer));
+    }
+}
+
+/// Each thing wrong alone, any two, and so many times one for each rule of every set
+/// of rules. (Not any two where scratch is large: each call takes long.)
+fn wrong_calls(functions: &dyn Direct, report: Report, size: (usize, usize), times: usize) {
+    let (rows, events) = size;
+    let mut random = Random::new(344_000 + (100 * rows + events) as u64);
+    let given = table(&mut random, Shape::Free, rows, events);
+    let sound = Given::of(&given, mask(&mut random, events), random.below(70_000) as u32);
+    for one in 0..WRONG.len() {
+        let fill = Fill::ALL[one % 3];
+        with_wrongs(functions, report, &sound, &[one], fill);
+        for other in one + 1..WRONG.len() {
+            if WRONG[one].0 != WRONG[other].0 && rows < 200 {
+                with_wrongs(functions, report, &sound, &[one, other], fill);
+            }
+        }
+    }
+    for set in 1..1 << ORDER.len() {
+        for _ in 0..times {
+            let wrongs: Vec<usize> = (0..ORDER.len())
+                .filter(|place| set >> place & 1 == 1)
+                .map(|place| some_wrong(&mut random, ORDER[place]))
+                .collect();
+            with_wrongs(functions, report, &sound, &wrongs, *random.pick(&Fill::ALL));
+        }
+    }
+}
+
+/// A number in [`WRONG`] for a rule.
+fn some_wrong(random: &mut Random, rule: usize) -> usize {
+    let all: Vec<usize> = (0..WRONG.len()).filter(|&wrong| WRONG[wrong].0 == rule).collect();
+    *random.pick(&all)
+}
+
+#[test]
+fn wrong_arguments() {
+    // The list is in the order of the rules.
+    let place = |rule: usize| ORDER.iter().position(|&other| other == rule);
+    assert!(WRONG.windows(2).all(|two| place(two[0].0) <= place(two[1].0)));
+    on_product("wrong arguments of the reducer", |functions, report| {
+        for size in [(1, 1), (2, 2), (3, 1), (8, 2), (9, 3), (20, 32), (130, 2)] {
+            wrong_calls(functions, report, size, 4);
+        }
+        wrong_calls(functions, report, (1024, 1), 1);
+        wrong_calls(functions, report, (1001, 31), 1);
+    });
+}
+
+// (f) The self-test: spoiled reducers are found by the checks above.
+
+#[test]
+fn faults_are_found() {
+    let mut tables = Vec::new();
+    for number in (0..count_all(3, 2)).step_by(97) {
+        let given = table_number(3, 2, number);
+        let study = Study::of(&given, number as Mask % 4);
+        let least: Vec<usize> =
+            all_offsets(3).into_iter().map(|offset| study.reduce(offset).table.rows).collect();
+        tables.push((given, study.mask, least));
+    }
+    find("direct reducer", &REDUCER_FAULTS, |functions, report| {
+        for (given, mask, least) in &tables {
+            check_small(functions, report, given, *mask, least);
+        }
+        larger_tables(functions, report, 50);
+        all_numbers(functions, report);
+        each_mask_bit(functions, report, 10);
+        lent_lengths(functions, report);
+        small_examples(functions, report);
+        wrong_calls(functions, report, (9, 3), 3);
+        wrong_calls(functions, report, (20, 2), 1);
+    });
+}
