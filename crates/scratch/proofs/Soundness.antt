@@ -9,21 +9,28 @@ use Rattle.tables.specs.Table.{Table, machine, eventsOf}
 use Rattle.rules.specs.Rules.{winch, contentChecks}
 use Rattle.rules.proofs.Checks.{unbroken, passed, all-inside}
 use Rattle.rules.proofs.Shape.{Shape, table-fine}
-use Rattle.scratch.specs.Scratch.{workable}
-use Rattle.scratch.proofs.Works.{workable-fine}
+use Rattle.scratch.specs.Scratch.{needed, workableIn, workable}
+use Rattle.scratch.proofs.Works.{within-fine}
 
-module _ (T : Table) (room : ℕ) (w : workable T room ≡ true) where
-  pub workable-shape : Shape winch T
-  workable-shape = table-fine winch T (workable-fine T room w .0) .0
+module _ (need : ℕ → ℕ) (T : Table) (room : ℕ) (w : workableIn need T room ≡ true) where
+  pub within-shape : Shape winch T
+  within-shape = table-fine winch T (within-fine need T room w .0) .0
 
   cells-in : (i : ℕ) → i < length (T .cells) → getD (T .cells) i 0 < T .rows
   cells-in =
       all-inside (T .rows) (T .cells) (length (T .cells)) refl .0
-      (unbroken _ _ _ (passed (contentChecks (T .rows) (T .cells) (T .marks)) (table-fine winch T (workable-fine T room w .0) .1) 0))
+      (unbroken _ _ _ (passed (contentChecks (T .rows) (T .cells) (T .marks)) (table-fine winch T (within-fine need T room w .0) .1) 0))
 
-  pub workable-sound : (weight : ℕ → ℕ) → Sound (eventsOf weight T) (machine T)
-  workable-sound weight =
+  pub within-sound : (weight : ℕ → ℕ) → Sound (eventsOf weight T) (machine T)
+  within-sound weight =
       record {
-        start-in = workable-shape .start-in;
-        target-in = λ q a hq ha. cells-in (q * T .events + a) (subst (λ (n : ℕ). q * T .events + a < n) (sym (workable-shape .all-cells)) (digits-lt hq ha));
+        start-in = within-shape .start-in;
+        target-in = λ q a hq ha. cells-in (q * T .events + a) (subst (λ (n : ℕ). q * T .events + a < n) (sym (within-shape .all-cells)) (digits-lt hq ha));
       }
+
+-- The same of the room that pairs need.
+pub workable-shape : (T : Table) (room : ℕ) → workable T room ≡ true → Shape winch T
+workable-shape = within-shape needed
+
+pub workable-sound : (T : Table) (room : ℕ) → workable T room ≡ true → (weight : ℕ → ℕ) → Sound (eventsOf weight T) (machine T)
+workable-sound = within-sound needed

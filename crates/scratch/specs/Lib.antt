@@ -1,1 +1,2 @@
 pub mod Scratch
+pub mod Folds

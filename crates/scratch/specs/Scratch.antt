@@ -64,6 +64,10 @@ needed n = triangle n + 4 * n
 abbrev pub scratchCells : ℕ → ℕ
 scratchCells rows = rows * (rows - 1) / 2 + 4 * rows
 
+-- "A second way through the reducer with 12 × rows scratch cells."
+abbrev pub fewCells : ℕ → ℕ
+fewCells rows = 12 * rows
+
 -- A length in a cell: 65,535 is endless.
 abbrev pub lenCell : Len → ℕ
 lenCell (len L) = L
@@ -78,6 +82,9 @@ abbrev pub fine : Verdict → Bool
 fine Fine = true
 fine (Refused number place) = false
 
--- A table that breaks none of the rules 1 to 6, and room for that many cells.
-unfoldable pub workable : Table → ℕ → Bool
-workable T room = cond (fine (judged (tableChecks winch T))) (leb (needed (T .rows)) room) false
+-- A table that breaks none of the rules 1 to 6, and room for the cells that its rows need.
+unfoldable pub workableIn : (ℕ → ℕ) → Table → ℕ → Bool
+workableIn need T room = cond (fine (judged (tableChecks winch T))) (leb (need (T .rows)) room) false
+
+abbrev pub workable : Table → ℕ → Bool
+workable = workableIn needed

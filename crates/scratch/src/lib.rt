@@ -2,8 +2,8 @@
 ghost use mathlib.Core.Path.{_≡_};
 ghost use Prim.Native.Nat.{_+_, _*_};
 ghost use lib.ListN.{getD, set};
-ghost use Rattle.rules.specs.Rules.{tableOf};
-ghost use Rattle.scratch.specs.Scratch.{triangle, startIn, pairFrom, leadsAt, queueAt, foldsAt, numbersAt, needed as cellsNeeded, cleared, workable as isWorkable};
+ghost use Rattle.rules.specs.Rules.{tableOf, judged, winch, tableChecks};
+ghost use Rattle.scratch.specs.Scratch.{triangle, startIn, pairFrom, leadsAt, queueAt, foldsAt, numbersAt, needed as cellsNeeded, cleared, fine, workable as isWorkable};
 
 // How many cells the pairs of so many rows take; behind them stand the leads.
 pub fn pair_cells(rows: u16) -> usize
@@ -115,7 +115,17 @@ pub fn clear(cells: &mut [u16], from: usize, to: usize)
     }
 }
 
-// Whether a table breaks none of the rules 1 to 6, and there is room to work on it.
+// Whether a table breaks none of the rules 1 to 6.
+pub fn valid(rows: usize, events: usize, start: usize, cells: &[u16], marks: &[u8]) -> bool
+    ensures { λ r. ⌜ r ≡ fine (judged (tableChecks winch (tableOf rows events start (now (cells .entry)) (now (marks .entry))))) ⌝ }
+{
+    match rules::check_table(rules::winch(), rows, events, start, cells, marks) {
+        rules::Verdict::Refused(number, place) => false,
+        rules::Verdict::Fine => true,
+    }
+}
+
+// Whether a table breaks none of them, and there is room to work on pairs of its rows.
 pub fn workable(
     rows: usize,
     events: usize,
@@ -126,8 +136,8 @@ pub fn workable(
 ) -> bool
     ensures { λ r. ⌜ r ≡ isWorkable (tableOf rows events start (now (cells .entry)) (now (marks .entry))) room ⌝ }
 {
-    match rules::check_table(rules::winch(), rows, events, start, cells, marks) {
-        rules::Verdict::Refused(number, place) => false,
-        rules::Verdict::Fine => needed(rows as u16) <= room,
+    if !valid(rows, events, start, cells, marks) {
+        return false;
     }
+    needed(rows as u16) <= room
 }
