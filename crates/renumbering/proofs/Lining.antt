@@ -1,158 +1,168 @@
 -- Going through the rows in line: the line is `met`, turn by turn, and in the end the numbering.
-use mathlib.Core.Path.{_≡_, refl, sym, ap, subst, fun-ext, _∙_}
+use mathlib.Core.Path.{_≡_, refl, sym, ap, subst, _∙_}
+use mathlib.Core.Bool.{cond}
 use mathlib.Core.List.{List, [], _∷_}
-use mathlib.Core.Logic.{inl, inr}
-use Prim.Native.Nat.{ℕ, zero, suc, _+_, _*_, _≤_, _<_}
+use Prim.Native.Nat.{ℕ, suc, _+_, _*_, _≤_, _<_}
 use native.Mathlib.Omega.{arith}
 use native.Mathlib.Numerals.{add-one}
+use native.Mathlib.Decide.{decLt}
+use borrow.Author.Tests.{lt-ltb, le-ltb}
 use lib.Dec.{eqb}
-use lib.ListN.{length, getD, set}
-use lib.Seq.{set-getD, getD-set-same}
-use Rattle.automata.proofs.Lists.{Mem}
-use Rattle.tables.specs.Lists.{tabulate, sift, over}
+use lib.ListN.{length, getD}
+use Rattle.tables.specs.Lists.{tabulate, some, sift}
 use Rattle.tables.specs.Table.{Table, Valid, machine, targetOf}
 use Rattle.tables.specs.Reduction.{met, numbering}
-use Rattle.tables.proofs.Lists.{read-same, read-below, mem-tabulate, tabulate-mem, tabulate-length, tabulate-same}
-use Rattle.tables.proofs.Numbering.{numbering-starts, met-stops}
-use Rattle.tables.proofs.Over.{over-set, over-length, over-part, over-inside, over-behind, over-again}
-use Rattle.scratch.specs.Scratch.{needed, queueAt, foldsAt, foldIn, queued}
-use Rattle.renumbering.specs.Renumber.{line}
-use Rattle.renumbering.specs.Line.{Line, next}
-use Rattle.renumbering.proofs.Lines.{sift-length, line-more, line-fits}
+use Rattle.automata.proofs.Lists.{Mem}
+use Rattle.tables.proofs.Lists.{read-same, read-below, at-mem, mem-tabulate, tabulate-length, tabulate-same}
+use Rattle.tables.proofs.Numbering.{met-stops, numbering-starts, numbering-same}
+use Rattle.scratch.specs.Scratch.{cleared}
+use Rattle.scratch.proofs.Cells.{cleared-length, cleared-before, cleared-behind, cleared-inside}
+use Rattle.renumbering.specs.Renumber.{line, Numbered}
+use Rattle.renumbering.specs.Line.{foldRow, lineIn, next, numberOf, Lined, Frame, Targets}
+use Rattle.renumbering.proofs.Lines.{sift-length, frame-none, frame-then, folds-stay, line-fits, line-list}
 
--- Every cell of a valid table is a row, and so is what is read beyond them.
-pub cells-rows : (T : Table) → Valid T → (i : ℕ) → getD (T .cells) i 0 < T .rows
-cells-rows T v = read-below (T .cells) (T .rows) (v .some-row) (v .cells-in)
+-- A valid table's cells.
+pub targets : (T : Table) → Valid T → Targets (T .rows) (T .events) (T .cells)
+targets T v = record {
+  some-row = v .some-row;
+  rows-fit = v .rows-fit;
+  some-event = v .some-event;
+  events-fit = v .events-fit;
+  all-cells = omega (arith, v .all-cells);
+  inside = read-below (T .cells) (T .rows) (v .some-row) (v .cells-in);
+}
 
-module _ (T : Table) (v : Valid T) (s : List ℕ) (room : needed (T .rows) ≤ length s) where
-  abbrev f : ℕ → ℕ
-  f = foldIn s (T .rows)
+-- A fold is a row.
+pub fold-below : (n : ℕ) (s : List ℕ) → 0 < n → (q : ℕ) → foldRow n s q < n
+fold-below n s pos q = elim (decLt (getD s (2 * n + q) 0) n) [
+  | yes h ↦ rw (lt-ltb (getD s (2 * n + q) 0) n h) h
+  | no h ↦ rw (le-ltb (getD s (2 * n + q) 0) n (omega arith)) pos
+]
 
+module _ (T : Table) (s : List ℕ) where
   -- the line after i rows of it have been gone through
   abbrev pub inLine : ℕ → List ℕ
-  inLine i = met (T .events) (machine T) f i
+  inLine i = met (T .events) (machine T) (foldRow (T .rows) s) i
 
-  fold-mem : (q : ℕ) → q < T .rows → Mem (f q) (tabulate (T .rows) f)
-  fold-mem q h = mem-tabulate (T .rows) f q h
+  -- What has come of the scratch by then.
+  pub record Gone (i c : ℕ) (t : List ℕ) : Type 0 where
+    pub many : c ≡ length (inLine i)
+    pub lined : Lined (T .rows) (inLine i) t
+    pub frame : Frame (T .rows) c s t
+    pub turns : i ≤ c
 
-  targets-mem : (l : List ℕ) (i x : ℕ) → Mem x (tabulate (T .events) (λ a. f (targetOf T (getD l i (f (T .start))) a))) → Mem x (tabulate (T .rows) f)
-  targets-mem l i x h =
-      let r = tabulate-mem (T .events) (λ a. f (targetOf T (getD l i (f (T .start))) a)) x h in
-      subst (λ (y : ℕ). Mem y (tabulate (T .rows) f)) (sym (r .2)) (fold-mem (targetOf T (getD l i (f (T .start))) (r .0)) (cells-rows T v _))
+module _ (T : Table) (v : Valid T) (s : List ℕ) where
+  abbrev n : ℕ
+  n = T .rows
 
-  pub in-line : (i : ℕ) → Line (T .rows) f (inLine i)
-  unfolding met
-  in-line zero = record { apart = (λ y h. absurd h, tt); folded = λ x h. elim h [ inl e ↦ subst (λ (y : ℕ). Mem y (tabulate (T .rows) f)) (sym e) (fold-mem (T .start) (v .start-in)) | inr g ↦ absurd g ] }
-  in-line (suc i) = line-more (T .rows) f _ (inLine i) (in-line i) (targets-mem (inLine i) i)
+  abbrev f : ℕ → ℕ
+  f = foldRow n s
 
-  pub in-line-fits : (i : ℕ) → length (inLine i) ≤ T .rows
-  in-line-fits i = line-fits (T .rows) f (inLine i) (in-line i)
-
-  inside : (i : ℕ) → queueAt (T .rows) + length (inLine i) ≤ length s
-  inside i = omega (arith, in-line-fits i)
+  pub gone-fits : {i c : ℕ} {t : List ℕ} → Gone T s i c t → c ≤ n
+  gone-fits {i} {c} {t} h = omega (arith, h .many, line-fits n (inLine T s i) t (h .lined))
 
   -- The first row in line.
-  pub lines-first : getD s (queueAt (T .rows)) 0 ≡ f (T .start) → (s ≡ over s (queueAt (T .rows)) (inLine 0)) × (1 ≡ length (inLine 0))
+  pub gone-first : Lined n (f (T .start) ∷ []) s → Gone T s 0 1 s
   unfolding met
-  lines-first e =
-      let at : ℕ = queueAt (T .rows) in
-      (sym (set-getD s at 0) ∙ over-set s at (getD s at 0) (omega (arith, v .some-row)) ∙ ap (λ (x : ℕ). over s at (x ∷ [])) e, refl)
+  gone-first g = record { many = refl; lined = g; frame = frame-none n 1 s; turns = omega arith }
 
-  module _ (i : ℕ) (t : List ℕ) (e : t ≡ over s (queueAt (T .rows)) (inLine i)) where
-    pub folds-as-before : (q : ℕ) → foldIn t (T .rows) q ≡ f q
-    folds-as-before q =
-        ap (λ (u : List ℕ). foldIn u (T .rows) q) e
-        ∙ over-behind s (queueAt (T .rows)) (inLine i) (inside i) (foldsAt (T .rows) + q) 0 (omega (arith, in-line-fits i))
+  -- The row whose turn it is.
+  row-there : {i c : ℕ} {t : List ℕ} → Gone T s i c t → i < c → {row : ℕ} → row ≡ getD t (n + i) 0 → row ≡ getD (inLine T s i) i (f (T .start))
+  row-there {i} {c} {t} h hi e = e ∙ h .lined .line i (omega (arith, h .many)) ∙ read-same (inLine T s i) i 0 (f (T .start)) (omega (arith, h .many))
 
-    pub queue-is : (c : ℕ) → c ≡ length (inLine i) → queued t (T .rows) c ≡ inLine i
-    queue-is c h =
-        ap (λ (k : ℕ). queued t (T .rows) k) h ∙ ap (λ (u : List ℕ). queued u (T .rows) (length (inLine i))) e
-        ∙ over-part s (queueAt (T .rows)) (inLine i) (inside i)
+  pub row-below : {i c : ℕ} {t : List ℕ} → Gone T s i c t → i < c → {row : ℕ} → row ≡ getD t (n + i) 0 → row < n
+  row-below {i} {c} {t} h hi e =
+      subst (λ (x : ℕ). x < n) (sym (row-there h hi e)) (h .lined .rows _ (at-mem (inLine T s i) i (f (T .start)) (omega (arith, h .many))))
 
-    pub queue-line : (c : ℕ) → c ≡ length (inLine i) → Line (T .rows) (foldIn t (T .rows)) (queued t (T .rows) c)
-    queue-line c h =
-        let same = tabulate-same (T .rows) f (foldIn t (T .rows)) (λ q l. sym (folds-as-before q)) in
-        subst (Line (T .rows) (foldIn t (T .rows))) (sym (queue-is c h))
-        (record { apart = in-line i .apart; folded = λ x g. subst (Mem x) same (in-line i .folded x g) })
-
-    row-read : (at row : ℕ) → at ≡ queueAt (T .rows) → i < length (inLine i) → row ≡ getD t (at + i) 0 → row ≡ getD (inLine i) i (f (T .start))
-    row-read at row h l g =
-        g ∙ ap (λ (k : ℕ). getD t (k + i) 0) h ∙ ap (λ (u : List ℕ). getD u (queueAt (T .rows) + i) 0) e
-        ∙ over-inside s (queueAt (T .rows)) (inLine i) (inside i) i 0 l ∙ read-same (inLine i) i 0 (f (T .start)) l
-
-    -- One row more has been gone through.
-    pub lines-up : (at row c r : ℕ) (u : List ℕ) → at ≡ queueAt (T .rows) → i < c → c ≡ length (inLine i) → row ≡ getD t (at + i) 0
-        → r ≡ length (sift eqb (queued t (T .rows) c) (next (T .cells) t (T .rows) (T .events) row))
-        → u ≡ over t (queueAt (T .rows)) (sift eqb (queued t (T .rows) c) (next (T .cells) t (T .rows) (T .events) row))
-        → (u ≡ over s (queueAt (T .rows)) (inLine (i + 1))) × (r ≡ length (inLine (i + 1))) × (length u ≡ length s)
-    unfolding met
-    lines-up at row c r u hat hi hc hrow hr hu =
-        let read = row-read at row hat (omega arith) hrow in
-        let ahead : next (T .cells) t (T .rows) (T .events) row ≡ tabulate (T .events) (λ a. f (targetOf T (getD (inLine i) i (f (T .start))) a))
-        = tabulate-same (T .events) _ _ (λ a l. folds-as-before (getD (T .cells) (row * T .events + a) 0) ∙ ap (λ (x : ℕ). f (getD (T .cells) (x * T .events + a) 0)) read) in
-        let more : sift eqb (queued t (T .rows) c) (next (T .cells) t (T .rows) (T .events) row) ≡ inLine (i + 1)
-        = ap (λ (l : List ℕ). sift eqb l (next (T .cells) t (T .rows) (T .events) row)) (queue-is c hc) ∙ ap (sift eqb (inLine i)) ahead
-        ∙ ap inLine (sym (add-one i)) in
-        let longer : length (inLine i) ≤ length (inLine (i + 1))
-        = omega (arith, ap length more, ap length (queue-is c hc), sift-length eqb (next (T .cells) t (T .rows) (T .events) row) (queued t (T .rows) c)) in
-        let now : u ≡ over s (queueAt (T .rows)) (inLine (i + 1))
-        = hu ∙ ap (over t (queueAt (T .rows))) more ∙ ap (λ (w : List ℕ). over w (queueAt (T .rows)) (inLine (i + 1))) e
-        ∙ over-again s (queueAt (T .rows)) (inLine i) (inside i) (inLine (i + 1)) longer in
-        (now, hr ∙ ap length more, ap length now ∙ over-length s (queueAt (T .rows)) (inLine (i + 1)) (inside (i + 1)))
-
-  pub fits-line : (i : ℕ) {r : ℕ} → r ≡ length (inLine (i + 1)) → r ≤ T .rows
-  fits-line i e = omega (arith, in-line-fits (i + 1))
-
-  pub grows : (i : ℕ) {c r : ℕ} → c ≡ length (inLine i) → r ≡ length (inLine (i + 1)) → i < c → i + 1 ≤ r
+  -- One row more has been gone through.
+  pub gone-next : {i c : ℕ} {t : List ℕ} → Gone T s i c t → i < c → {row r : ℕ} {u : List ℕ} → row ≡ getD t (n + i) 0
+      → r ≡ length (sift eqb (lineIn n t c) (next (T .cells) t n (T .events) row)) → Lined n (sift eqb (lineIn n t c) (next (T .cells) t n (T .events) row)) u
+      → Frame n (length (sift eqb (lineIn n t c) (next (T .cells) t n (T .events) row))) t u → Gone T s (i + 1) r u
   unfolding met
-  grows i {c} {r} hc hr h =
-      let more : length (inLine i) ≤ length (inLine (suc i)) = sift-length eqb _ (inLine i) in
-      omega (arith, ap (λ (k : ℕ). length (inLine k)) (add-one i))
+  gone-next {i} {c} {t} h hi {row} {r} {u} hrow hr hl hf =
+      let list : lineIn n t c ≡ inLine T s i = line-list n (inLine T s i) t (h .lined) c (h .many) in
+      let ahead : next (T .cells) t n (T .events) row ≡ tabulate (T .events) (λ a. f (targetOf T (getD (inLine T s i) i (f (T .start))) a))
+      = tabulate-same (T .events) _ _ (λ a l. folds-stay (h .frame) (gone-fits h) _ (targets T v .inside _)
+      ∙ ap (λ (x : ℕ). f (getD (T .cells) (x * T .events + a) 0)) (row-there h hi hrow)) in
+      let more : sift eqb (lineIn n t c) (next (T .cells) t n (T .events) row) ≡ inLine T s (i + 1)
+      = ap (λ (l : List ℕ). sift eqb l (next (T .cells) t n (T .events) row)) list ∙ ap (sift eqb (inLine T s i)) ahead ∙ ap (inLine T s) (sym (add-one i)) in
+      let longer : c ≤ r = omega (arith, h .many, ap length list, sift-length eqb (next (T .cells) t n (T .events) row) (lineIn n t c)) in
+      record {
+        many = hr ∙ ap length more;
+        lined = subst (λ (l : List ℕ). Lined n l u) more hl;
+        frame = frame-then (h .frame) (subst (λ (k : ℕ). Frame n k t u) (sym hr) hf) longer;
+        turns = omega arith;
+      }
 
   -- All that are met have been gone through.
-  pub lined : (i : ℕ) → length (inLine i) ≤ i → i ≤ T .rows → inLine i ≡ line T s
+  pub gone-all : {i c : ℕ} {t : List ℕ} → Gone T s i c t → c ≤ i → (c ≡ length (line T s)) × Numbered T s t
   unfolding line
-  lined i h g = sym (met-stops (T .events) (machine T) f (tabulate (T .rows) f) (fold-mem (T .start) (v .start-in))
-      (λ x a hx ha. fold-mem (targetOf T x a) (cells-rows T v _)) (omega (arith, tabulate-length (T .rows) f)) i g h)
+  gone-all {i} {c} {t} h g =
+      let all : inLine T s i ≡ numbering (T .events) (machine T) f
+      = sym (met-stops (T .events) (machine T) f (tabulate n f) (mem-tabulate n f (T .start) (v .start-in))
+      (λ x a hx ha. mem-tabulate n f (targetOf T x a) (targets T v .inside _)) (omega (arith, tabulate-length n f)) i (omega (arith, h .turns, gone-fits h)) (omega (arith, h .many))) in
+      let many = h .many ∙ ap length all in
+      (many, (subst (λ (l : List ℕ). Lined n l t) all (h .lined), subst (λ (k : ℕ). Frame n k s t) many (h .frame)))
 
-  -- The line has a row, and no more than the table.
-  pub line-some : 1 ≤ length (line T s)
-  unfolding line
-  line-some = let m = numbering-starts (T .events) (machine T) f in omega (arith, ap length (m .1))
+  -- ---- before the first row
 
-  pub line-short : length (line T s) ≤ T .rows
-  unfolding line numbering
-  line-short = in-line-fits (T .rows)
+  -- With the numbers cleared, no row is in line, and rows fold as before.
+  module _ (room : 4 * n ≤ length s) (t : List ℕ) (e : t ≡ cleared s (3 * n) (4 * n)) where
+    size : length t ≡ length s
+    size = ap length e ∙ cleared-length s (3 * n) (4 * n) (omega arith) room
 
-  -- With the first row put in line, the folds and so the line are the same.
-  module _ (at x : ℕ) (t : List ℕ) (hat : at ≡ queueAt (T .rows)) (hx : x ≡ f (T .start)) (ht : t ≡ set s at x) where
-    first-over : t ≡ over s (queueAt (T .rows)) (x ∷ [])
-    first-over = ht ∙ over-set s at x (omega (arith, v .some-row)) ∙ ap (λ (k : ℕ). over s k (x ∷ [])) hat
+    before : (k : ℕ) → k < 3 * n → getD t k 0 ≡ getD s k 0
+    before k h = ap (λ (u : List ℕ). getD u k 0) e ∙ cleared-before s (3 * n) (4 * n) (omega arith) room k h
 
-    fits : queueAt (T .rows) + length {A = ℕ} (x ∷ []) ≤ length s
-    fits = omega (arith, v .some-row)
+    pub line-empty : Lined n (lineIn n t 0) t
+    unfolding some
+    line-empty = record {
+      room = omega (arith, size);
+      apart = tt;
+      rows = λ x h. absurd h;
+      line = λ i h. absurd (omega arith);
+      numbers = λ x h. ap (λ (u : List ℕ). getD u (3 * n + x) 0) e ∙ cleared-inside s (3 * n) (4 * n) (omega arith) room (3 * n + x) (omega arith) (omega arith);
+    }
 
-    folds-same : (q : ℕ) → foldIn t (T .rows) q ≡ f q
-    folds-same q = ap (λ (u : List ℕ). foldIn u (T .rows) q) first-over ∙ over-behind s (queueAt (T .rows)) (x ∷ []) fits (foldsAt (T .rows) + q) 0 (omega (arith, v .some-row))
+    pub empty-frame : Frame n 0 s t
+    empty-frame = record {
+      size = size;
+      leads = λ k h. before k (omega arith);
+      rest = λ k h g. before k g;
+      behind = λ k h. ap (λ (u : List ℕ). getD u k 0) e ∙ cleared-behind s (3 * n) (4 * n) (omega arith) room k h;
+    }
 
-    line-same : line T t ≡ line T s
+  -- The first row put in line, and behind it all that are met: rows fold as they did at first.
+  module _ (t : List ℕ) (h : Frame n 0 s t) (x r : ℕ) (u w : List ℕ) (hx : x ≡ foldRow n t (T .start))
+      (lined : Lined n (sift eqb (lineIn n t 0) (x ∷ [])) u) (frame : Frame n (length (sift eqb (lineIn n t 0) (x ∷ []))) t u) where
+    one : sift eqb (lineIn n t 0) (x ∷ []) ≡ x ∷ []
+    unfolding sift some
+    one = refl
+
+    frame-one : Frame n 1 t u
+    frame-one = subst (λ (l : List ℕ). Frame n (length l) t u) one frame
+
+    whole : Frame n 1 s u
+    whole = frame-then h frame-one (omega arith)
+
+    folds-first : (q : ℕ) → q < n → foldRow n u q ≡ f q
+    folds-first q l = folds-stay whole (omega (arith, v .some-row)) q l
+
+    pub first-there : Lined n (foldRow n u (T .start) ∷ []) u
+    first-there =
+        subst (λ (y : ℕ). Lined n (y ∷ []) u) (hx ∙ sym (folds-stay frame-one (omega (arith, v .some-row)) (T .start) (v .start-in))) (subst (λ (l : List ℕ). Lined n l u) one lined)
+
+    same : line T u ≡ line T s
     unfolding line
-    line-same = ap (λ (g : ℕ → ℕ). numbering (T .events) (machine T) g) (fun-ext folds-same)
+    same = numbering-same (T .events) (machine T) (foldRow n u) f (λ q. Unit {0}) (folds-first (T .start) (v .start-in)) tt
+        (λ q a p b. folds-first (targetOf T q a) (targets T v .inside _)) (λ q a p b. tt)
 
-    pub first-there : (needed (T .rows) ≤ length t) × (getD t (queueAt (T .rows)) 0 ≡ foldIn t (T .rows) (T .start))
-    first-there = (
-      omega (arith, ap length first-over, over-length s (queueAt (T .rows)) (x ∷ []) fits),
-      ap (λ (k : ℕ). getD t k 0) (sym hat) ∙ ap (λ (u : List ℕ). getD u at 0) ht ∙ getD-set-same s at x 0 (omega (arith, v .some-row)) ∙ hx
-          ∙ sym (folds-same (T .start)),
+    not-empty : 1 ≤ length (line T s)
+    unfolding line
+    not-empty = let m = numbering-starts (T .events) (machine T) f in omega (arith, ap length (m .1))
+
+    pub lines-all : r ≡ length (line T u) → Numbered T u w → (r ≡ length (line T s)) × Numbered T s w
+    lines-all e p = (
+      e ∙ ap length same,
+      (subst (λ (l : List ℕ). Lined n l w) same (p .0), frame-then whole (subst (λ (l : List ℕ). Frame n (length l) u w) same (p .1)) not-empty),
     )
-
-    pub lines-all : (r : ℕ) (u : List ℕ) → r ≡ length (line T t) → u ≡ over t (queueAt (T .rows)) (line T t)
-        → (r ≡ length (line T s)) × (u ≡ over s (queueAt (T .rows)) (line T s)) × (length u ≡ length s)
-    lines-all r u hr hu =
-        let n = line-some in
-        let m = line-short in
-        let inside : queueAt (T .rows) + length (line T s) ≤ length s = omega arith in
-        let now : u ≡ over s (queueAt (T .rows)) (line T s)
-        = hu ∙ ap (over t (queueAt (T .rows))) line-same ∙ ap (λ (w : List ℕ). over w (queueAt (T .rows)) (line T s)) first-over
-        ∙ over-again s (queueAt (T .rows)) (x ∷ []) fits (line T s) n in
-        (hr ∙ ap length line-same, now, ap length now ∙ over-length s (queueAt (T .rows)) (line T s) inside)

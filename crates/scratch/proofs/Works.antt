@@ -2,10 +2,9 @@
 use mathlib.Core.Path.{_≡_, refl, sym, ap, _∙_}
 use mathlib.Core.Bool.{Bool, true, false, not, cond, false≢true}
 use Prim.Native.Nat.{ℕ, _≤_, _<_}
-use borrow.Author.Tests.{leb-true, le-leb}
+use borrow.Author.Tests.{not-true, not-false, leb-true, le-leb}
 use lib.Dec.{leb}
 use lib.ListN.{getD}
-use Rattle.automata.proofs.Tests.{flip-true}
 use Rattle.tables.specs.Table.{Table, Valid}
 use Rattle.rules.specs.Rules.{judged, winch, tableChecks}
 use Rattle.rules.specs.declared.Limits.{Limits}
@@ -19,10 +18,6 @@ is-fine : (v : Verdict) → fine v ≡ true → v ≡ Fine
 is-fine Fine h = refl
 is-fine (Refused number place) h = absurd (false≢true h)
 
-flip-false : (b : Bool) → not b ≡ false → b ≡ true
-flip-false true h = refl
-flip-false false h = sym h
-
 -- The checks as the code made them, with the limits that it was given.
 module _ (T : Table) (L : Limits) (v : Verdict) (l : L ≡ winch) (e : v ≡ judged (tableChecks L T)) where
   verdict : v ≡ judged (tableChecks winch T)
@@ -34,14 +29,18 @@ module _ (T : Table) (L : Limits) (v : Verdict) (l : L ≡ winch) (e : v ≡ jud
 -- Whether the table breaks a rule, as the code asks.
 module _ (T : Table) (valid : Bool) (e : valid ≡ fine (judged (tableChecks winch T))) where
   told : not valid ≡ false → fine (judged (tableChecks winch T)) ≡ true
-  told h = sym e ∙ flip-false valid h
+  told h = sym e ∙ not-false valid h
 
   pub small-rows : not valid ≡ false → T .rows ≤ 1024
   small-rows h = table-fine winch T (is-fine (judged (tableChecks winch T)) (told h)) .0 .rows-fit
 
+  -- Mark bytes are bytes, as the code's types say.
+  pub fine-valid : not valid ≡ false → ((i : ℕ) → getD (T .marks) i 0 < 256) → Valid T
+  fine-valid h bytes = table-valid T bytes .0 (is-fine (judged (tableChecks winch T)) (told h))
+
   pub not-fine : not valid ≡ true → (need : ℕ → ℕ) (room : ℕ) → workableIn need T room ≡ false
   unfolding workableIn
-  not-fine h need room = ap (λ (b : Bool). cond b (leb (need (T .rows)) room) false) (sym e ∙ flip-true valid h)
+  not-fine h need room = ap (λ (b : Bool). cond b (leb (need (T .rows)) room) false) (sym e ∙ not-true valid h)
 
   pub fine-room : not valid ≡ false → (need : ℕ → ℕ) (n room : ℕ) → n ≡ need (T .rows) → workableIn need T room ≡ leb n room
   unfolding workableIn

@@ -4,6 +4,7 @@ use mathlib.Core.List.{List, [], _∷_, _++_, map}
 use mathlib.Core.Logic.{_⊎_, inl, inr, _≢_}
 use Prim.Native.Nat.{ℕ, zero, suc, _*_, _/_, _%_, _≤_, _<_}
 use native.Mathlib.Omega.{arith}
+use native.Mathlib.Nat.{mod-lt, div-lt-iff-lt-mul}
 use native.Mathlib.Decide.{decLe, le-ind}
 use lib.Dec.{eqb}
 use borrow.Author.Tests.{eqb-true, eqb-false, eq-eqb}
@@ -15,7 +16,7 @@ use Rattle.automata.proofs.Folding.{folded}
 use Rattle.tables.specs.Lists.{tabulate, place, sift}
 use Rattle.tables.specs.Table.{Table, pack}
 use Rattle.tables.specs.Reduction.{met, numbering, number, renumbered}
-use Rattle.tables.proofs.Lists.{tabulate-same, mem-left, mem-at, read-mem, mem-tabulate, tabulate-mem, has-some, pairwise-all, pairwise-map, subset-length}
+use Rattle.tables.proofs.Lists.{tabulate-same, mem-left, mem-at, at-mem, read-mem, mem-tabulate, tabulate-mem, has-some, pairwise-all, pairwise-map, subset-length}
 use Rattle.tables.proofs.Lists.{Apart, sift-more, sift-all, sift-apart, sift-none, sift-covers}
 
 module _ (events : ℕ) (M : Machine) (f : ℕ → ℕ) where
@@ -162,27 +163,51 @@ module _ (events : ℕ) (M : Machine) (f : ℕ → ℕ) where
           let down = subset-length (numbering events M f) kept numbering-distinct numbering-kept in
           omega arith
 
--- The numbering and the new table depend on the folding of the start and of targets only.
-module _ (events : ℕ) (M : Machine) (f g : ℕ → ℕ) (at-start : f (M .start) ≡ g (M .start)) (at-target : (x a : ℕ) → f (M .target x a) ≡ g (M .target x a)) where
+-- The numbering and the new table depend on the folding of the start and of the targets of rows that are met only, which are among those of P.
+module _ (events : ℕ) (M : Machine) (f g : ℕ → ℕ) (P : ℕ → Type 0) (at-start : f (M .start) ≡ g (M .start)) (start-in : P (g (M .start)))
+    (at-target : (x a : ℕ) → P x → a < events → f (M .target x a) ≡ g (M .target x a)) (next-in : (x a : ℕ) → P x → a < events → P (g (M .target x a))) where
+  met-in : (i x : ℕ) → Mem x (met events M g i) → P x
+  unfolding met
+  met-in zero x h = elim h [ inl e ↦ subst P (sym e) start-in | inr u ↦ absurd u ]
+  met-in (suc i) x h = step (met-in i) x h
+    where
+      step : ((x : ℕ) → Mem x (met events M g i) → P x) → (x : ℕ) → Mem x (sift eqb (met events M g i) (targets events M g (met events M g i) i)) → P x
+      step ih = sift-all eqb P (targets events M g (met events M g i) i) (met events M g i) ih (λ y u.
+          let t = tabulate-mem events (λ a. g (M .target (getD (met events M g i) i (g (M .start))) a)) y u in
+          subst P (sym (t .2)) (next-in _ (t .0) (ih _ (read-mem (met events M g i) i (g (M .start)) (met-start events M g i))) (t .1)))
+
   met-same : (i : ℕ) → met events M f i ≡ met events M g i
   unfolding met
   met-same zero = ap (λ (x : ℕ). x ∷ []) at-start
   met-same (suc i) =
       let l = met events M g i in
       ap (λ (m : List ℕ). sift eqb m (targets events M f m i)) (met-same i)
-      ∙ ap (sift eqb l) (tabulate-same events _ _ (λ a h. at-target _ a ∙ ap (λ (x : ℕ). g (M .target (getD l i x) a)) at-start))
+      ∙ ap (λ (x : ℕ). sift eqb l (tabulate events (λ a. f (M .target (getD l i x) a)))) at-start
+      ∙ ap (sift eqb l) (tabulate-same events _ _ (λ a h. at-target _ a (met-in i _ (read-mem l i (g (M .start)) (met-start events M g i))) h))
 
-  pub number-same : (q : ℕ) → f q ≡ g q → number events M f q ≡ number events M g q
-  unfolding number numbering
-  number-same q e = ap (λ (x : ℕ). place x (met events M f (M .rows))) e ∙ ap (place (g q)) (met-same (M .rows))
+  pub numbering-same : numbering events M f ≡ numbering events M g
+  unfolding numbering
+  numbering-same = met-same (M .rows)
+
+  number-same : (q : ℕ) → f q ≡ g q → number events M f q ≡ number events M g q
+  unfolding number
+  number-same q e = ap (λ (x : ℕ). place x (numbering events M f)) e ∙ ap (place (g q)) numbering-same
 
   pub renumbered-same : renumbered events M f ≡ renumbered events M g
   unfolding renumbered numbering
   renumbered-same =
       let l = met events M f (M .rows) in
-      let m = met events M g (M .rows) in
-      ap (λ (c : List ℕ). table l c) (tabulate-same (length l * events) _ _ (λ c h. number-same _ (at-target _ _)))
+      ap (λ (c : List ℕ). table l c) (tabulate-same (length l * events) _ _ (λ c h.
+      let here : c < length (met events M g (M .rows)) * events = subst (λ (k : List ℕ). c < length k * events) (met-same (M .rows)) h in
+      let some : 0 < events = elim (decLe events 0) [ yes u ↦ absurd (omega (arith, none (length l) events c u h)) | no u ↦ omega arith ] in
+      let m = subst (λ (k : List ℕ). Mem (getD k (c / events) 0) (met events M g (M .rows))) (sym (met-same (M .rows)))
+      (at-mem (met events M g (M .rows)) (c / events) 0 (div-lt-iff-lt-mul {k = events} some .1 here)) in
+      number-same _ (at-target _ _ (met-in (M .rows) _ m) (mod-lt c some))))
       ∙ ap (λ (k : List ℕ). table k (tabulate (length k * events) (λ c. number events M g (M .target (getD k (c / events) 0) (c % events))))) (met-same (M .rows))
     where
       table : List ℕ → List ℕ → Table
       table l c = record { rows = length l; events = events; start = 0; cells = c; marks = pack (map (M .mark) l) }
+
+      none : (n m c : ℕ) → m ≤ 0 → c < n * m → ⊥
+      none n zero c u h = absurd (omega arith)
+      none n (suc m) c u h = absurd (omega arith)

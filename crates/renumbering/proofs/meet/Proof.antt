@@ -1,77 +1,92 @@
-use mathlib.Core.Path.{_≡_, refl, ap, _∙_}
-use Prim.Native.Nat.{_-_, _≤_}
-use native.Mathlib.Omega.{arith}
-use borrow.Author.Needs.{needs}
+use mathlib.Core.Path.{_≡_, sym, ap, subst, _∙_}
+use Prim.Native.Nat.{ℕ, _+_, _*_, _-_, _≤_}
+use lib.Arith.{digits-lt}
 use lib.ListN.{length}
-use Rattle.tables.specs.Lists.{over}
-use Rattle.scratch.specs.Scratch.{queueAt}
-use Rattle.scratch.proofs.Triangle.{triangle-bound}
-use Rattle.renumbering.proofs.Lines.{reads-fold}
-use Rattle.renumbering.proofs.Meeting.{soFar, so-far-fits, none-met, meets, all-met}
+use Rattle.renumbering.specs.Line.{foldRow}
+use Rattle.renumbering.proofs.Lines.{line-again}
+use Rattle.renumbering.proofs.Meeting.{soFar, Met, none-met, met-fits, meets, all-met}
+use native.Mathlib.Omega.{arith}
 use Rattle.renumbering.proofs.meet.Statement.{statement}
 use Rattle.renumbering.proofs.meet.Tie as tie
 
 abbrev Inv-loop : tie.InvT-loop
-Inv-loop cells rows events scratch₀ row count at folds count₀ a₀ scratch count' a =
-    (a ≤ events) × (scratch ≡ over scratch₀ (queueAt rows) (soFar cells scratch₀ rows events row count a))
-    × (count' ≡ length (soFar cells scratch₀ rows events row count a)) × (length scratch ≡ length scratch₀)
+Inv-loop cells n m scratch₀ row count count₀ a₀ scratch count' a = (a ≤ m) × Met cells scratch₀ n m row count a count' scratch
 
 abbrev μ-loop : tie.MeasureT-loop
-μ-loop cells rows events scratch₀ row count at folds count₀ a₀ scratch count' a = events - a
+μ-loop cells n m scratch₀ row count count₀ a₀ scratch count' a = m - a
 
 loop-holds : tie.Need-loop-holds Inv-loop μ-loop
 loop-holds c =
-    let z = c .before .before .before .before in
-    let a = z .args in
-    let e = none-met (a .cells .now) (a .scratch .now) (a .rows) (a .events) (a .row) (a .count) (z .pre .0 .0) (z .pre .0 .1) (z .pre .1) (z .pre .0 .2) in
-    (omega arith, e .0, e .1, refl)
+    let z = c .before .before in
+    let b = z .args in
+    (omega arith, none-met (b .cells .now) (b .scratch .now) (b .n) (b .m) (b .row) (b .count) (z .pre .0) (z .pre .1) (z .pre .3))
 
-add-cell : tie.Need-add-cell Inv-loop μ-loop
-add-cell c = omega (arith, c .before .before .before .before .before .folds-at .ensures, triangle-bound (c .before .before .before .before .before .before .before .before .before .args .rows) (omega arith))
+mul-wide : tie.Need-mul-wide Inv-loop μ-loop
+mul-wide c =
+    let z = c .before .before .before .before in
+    omega (arith, z .pre .0 .all-cells, digits-lt (z .pre .2) (c .loop-test .taken))
+
+add-wide : tie.Need-add-wide Inv-loop μ-loop
+add-wide c =
+    let z = c .before .before .before .before in
+    omega (arith, z .pre .0 .all-cells, digits-lt (z .pre .2) (c .loop-test .taken))
+
+mul-wide-2 : tie.Need-mul-wide-2 Inv-loop μ-loop
+mul-wide-2 c =
+    let z = c .before .before .before .before in
+    omega (arith, z .pre .0 .all-cells, digits-lt (z .pre .2) (c .loop-test .taken))
+
+shared-slice-read-wide : tie.Need-shared-slice-read-wide Inv-loop μ-loop
+shared-slice-read-wide c =
+    let z = c .before .before .before .before .before in
+    omega (arith, z .pre .0 .all-cells, digits-lt (z .pre .2) (c .before .loop-test .taken))
+
+fold-of-requires : tie.Need-fold-of-requires Inv-loop μ-loop
+fold-of-requires c κs =
+    let z = c .before .before .before .before .before .before .before in
+    let l = c .before .before .before .before .loop in
+    (z .pre .0 .rows-fit, omega (arith, c .before .wide .ensures, z .pre .0 .inside (z .args .row * z .args .m + l .a)), l .inv .1 .lined .room)
 
 join-requires : tie.Need-join-requires Inv-loop μ-loop
 join-requires c κs =
-    let z = c .before .before .before .before .before .before .before .before .before .before .before in
-    let a = z .args in
+    let z = c .before .before .before .before .before .before .before .before .before in
+    let b = z .args in
     let l = c .before .before .before .before .before .before .loop in
-    omega (arith, c .before .before .before .before .before .before .before .before .queue-at .ensures, l .inv .2, l .inv .3, z .pre .0 .0, so-far-fits (a .cells .now) (a .scratch .now) (a .rows) (a .events) (a .row) (a .count) (z .pre .0 .0) (z .pre .0 .1) (z .pre .1) (l .a), z .pre .0 .1 0)
+    (z .pre .0 .rows-fit, met-fits (b .cells .now) (b .scratch .now) (b .n) (b .m) (b .row) (b .count) (z .pre .0) (z .pre .1) (z .pre .3) (l .inv .1), c .before .fold-of .ensures .1, line-again (b .n) (soFar (b .cells .now) (b .scratch .now) (b .n) (b .m) (b .row) (b .count) (l .a)) (l .scratch) (l .inv .1 .lined) (l .count) (l .inv .1 .many))
 
 loop-again : tie.Need-loop-again Inv-loop μ-loop
 loop-again c =
-    let z = c .before .before .before .before .before .before .before .before .before .before .before .before .before .before in
-    let a = z .args in
+    let z = c .before .before .before .before .before .before .before .before .before .before .before .before in
+    let b = z .args in
     let l = c .before .before .before .before .before .before .before .before .before .loop in
     let j = c .before .before .join in
-    let e = meets (a .cells .now) (a .scratch .now) (a .rows) (a .events) (a .row) (a .count) (z .pre .0 .0) (z .pre .0 .1) (z .pre .1) (l .a) (c .before .before .before .before .before .before .before .before .before .before .before .queue-at .result) (l .count) (c .before .before .before .before .cell .result) (j .result) (l .scratch) (j .last .0)
-    (omega arith) (c .before .before .before .before .before .before .before .before .before .before .before .queue-at .ensures) (l .inv .2) (l .inv .1)
-    (reads-fold (l .scratch) (a .rows) (c .before .before .before .before .before .before .before .before .before .before .folds-at .ensures) (c .before .before .before .before .before .wide .ensures ∙ c .before .before .before .before .before .before .before .target .ensures) (c .before .before .before .before .cell .ensures))
-    (j .ensures .0) (j .ensures .1) in
-    (omega arith, e .0, e .1, e .2)
+    (omega arith, meets (b .cells .now) (b .scratch .now) (b .n) (b .m) (b .row) (b .count) (z .pre .0) (z .pre .1) (z .pre .3) (l .inv .1) (c .before .before .before .before .before .before .before .before .loop-test .taken) (c .before .before .before .before .fold-of .ensures .0 ∙ ap (foldRow (b .n) (l .scratch)) (c .before .before .before .before .before .before .wide .ensures)) (j .ensures .0) (j .ensures .1) (j .ensures .2))
 
 same-length : tie.Need-same-length Inv-loop μ-loop
-same-length c = c .before .loop .inv .3
+same-length c =
+    c .before .loop .inv .1 .frame .size
 
 returns : tie.Need-returns Inv-loop μ-loop
 returns c =
-    let z = c .before .before .before .before .before .before in
-    let a = z .args in
+    let z = c .before .before .before .before in
+    let b = z .args in
     let l = c .before .loop in
-    let e = all-met (a .cells .now) (a .scratch .now) (a .rows) (a .events) (a .row) (a .count) (z .pre .0 .0) (z .pre .0 .1) (z .pre .1) (l .a) (omega arith) in
-    (l .inv .2 ∙ ap length e, l .inv .1 ∙ ap (over (a .scratch .now) (queueAt (a .rows))) e)
+    all-met (b .cells .now) (b .scratch .now) (b .n) (b .m) (b .row) (b .count) (z .pre .0) (z .pre .1) (z .pre .3) (omega (arith, c .loop-test .left)) (l .inv .1)
 
 pub meet-spec : {M : Type 1} → statement M
 meet-spec =
     tie.close
+    
     (tie.spec
     Inv-loop
     μ-loop
-    (λ c κs. search needs)
-    (λ c κs. search needs)
     loop-holds
-    (λ c κs. search needs)
-    (λ c κs. search needs)
-    add-cell
-    (λ c κs. search needs)
+    mul-wide
+    add-wide
+    mul-wide-2
+    shared-slice-read-wide
+    (λ c κs. omega arith)
+    fold-of-requires
     join-requires
     (λ c. omega arith)
     (λ c. omega arith)

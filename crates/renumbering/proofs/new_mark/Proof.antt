@@ -1,31 +1,28 @@
+use Rattle.renumbering.proofs.Writing.{new-mark-in, new-mark-none}
 use mathlib.Core.Path.{sym}
 use native.Mathlib.Omega.{arith}
-use Rattle.scratch.proofs.Triangle.{triangle-bound}
-use Rattle.renumbering.proofs.Writing.{new-mark-in, new-mark-none}
 use borrow.Author.Needs.{needs}
 use Rattle.renumbering.proofs.new_mark.Statement.{statement}
 use Rattle.renumbering.proofs.new_mark.Tie as tie
 
-add-cell : tie.Need-add-cell
-add-cell c = omega (arith, c .queue-at .ensures, triangle-bound (c .before .before .before .before .args .rows) (omega arith))
-
 returns : tie.Need-returns
 returns c =
-    let a = c .before .before .before .before .before .before .before .args in
-    new-mark-in (a .marks .now) (a .scratch .now) (a .rows) (a .count) (a .i) (c .before .before .before .before .if1 .taken) (c .before .before .before .queue-at .ensures) (c .before .before .cell .ensures) (c .before .wide .ensures) (c .mark .ensures)
+    let a = c .before .before .before .before .before .before .args in
+    new-mark-in (a .marks .now) (a .scratch .now) (a .n) (a .count) (a .i) (c .before .before .before .if1 .taken) (c .before .wide .ensures) (c .mark .ensures)
 
 returns-2 : tie.Need-returns-2
 returns-2 c =
     let a = c .before .before .before .args in
-    sym (new-mark-none (a .marks .now) (a .scratch .now) (a .rows) (a .count) (a .i) (c .if1 .left))
+    sym (new-mark-none (a .marks .now) (a .scratch .now) (a .n) (a .count) (a .i) (c .if1 .left))
 
 pub new-mark-spec : {M : Type 1} → statement M
 new-mark-spec =
     tie.close
+    
     (tie.spec
-    (λ c κs. search needs)
-    add-cell
-    (λ c κs. search needs)
+    (λ c. search needs)
+    (λ c. search needs)
+    (λ c. search needs)
     (λ c κs. search needs)
     (λ c κs. search needs)
     returns

@@ -1,40 +1,77 @@
-use native.Mathlib.Nat.{div-le-self, mod-le}
+use mathlib.Core.Path.{_≡_, sym, ap, subst, _∙_}
+use Prim.Native.Nat.{ℕ, _+_, _-_, _*_, _<_, _≤_}
+use lib.Arith.{digits-lt}
+use lib.ListN.{getD}
+use Rattle.renumbering.specs.Line.{foldRow}
+use Rattle.renumbering.proofs.Writing.{line-row, new-target-is}
 use native.Mathlib.Omega.{arith}
-use Rattle.scratch.proofs.Triangle.{triangle-bound}
-use Rattle.renumbering.proofs.Writing.{new-target-is}
 use borrow.Author.Needs.{needs}
 use Rattle.renumbering.proofs.new_target.Statement.{statement}
 use Rattle.renumbering.proofs.new_target.Tie as tie
 
-add-cell : tie.Need-add-cell
-add-cell c = omega (arith, c .queue-at .ensures, triangle-bound (c .before .before .before .before .args .rows) (omega arith), div-le-self (c .before .before .before .before .args .c) (c .before .wide .result), c .before .before .before .before .pre .1)
+mul-wide-2 : tie.Need-mul-wide-2
+mul-wide-2 c =
+    let z = c .before .before .before .before in
+    let a = z .args in
+    let h : c .wide .result < a .n = omega (arith, c .wide .ensures, line-row (a .n) (a .count) (a .i) (a .scratch .now) (z .pre .1) (z .pre .2) (z .pre .3)) in
+    omega (arith, z .pre .0 .all-cells, digits-lt h (z .pre .4))
 
-cast-target : tie.Need-cast-target
-cast-target c = omega (arith, mod-le (c .before .before .before .before .before .args .c) (c .before .before .wide .result), c .before .before .before .before .before .pre .1)
+add-wide-2 : tie.Need-add-wide-2
+add-wide-2 c =
+    let z = c .before .before .before .before in
+    let a = z .args in
+    let h : c .wide .result < a .n = omega (arith, c .wide .ensures, line-row (a .n) (a .count) (a .i) (a .scratch .now) (z .pre .1) (z .pre .2) (z .pre .3)) in
+    omega (arith, z .pre .0 .all-cells, digits-lt h (z .pre .4))
 
-add-at : tie.Need-add-at
-add-at c = omega (arith, c .before .numbers-at .ensures, triangle-bound (c .before .before .before .before .before .before .before .before .args .rows) (omega arith))
+mul-wide-3 : tie.Need-mul-wide-3
+mul-wide-3 c =
+    let z = c .before .before .before .before in
+    let a = z .args in
+    let h : c .wide .result < a .n = omega (arith, c .wide .ensures, line-row (a .n) (a .count) (a .i) (a .scratch .now) (z .pre .1) (z .pre .2) (z .pre .3)) in
+    omega (arith, z .pre .0 .all-cells, digits-lt h (z .pre .4))
+
+shared-slice-read-wide-2 : tie.Need-shared-slice-read-wide-2
+shared-slice-read-wide-2 c =
+    let z = c .before .before .before .before .before in
+    let a = z .args in
+    let h : c .before .wide .result < a .n = omega (arith, c .before .wide .ensures, line-row (a .n) (a .count) (a .i) (a .scratch .now) (z .pre .1) (z .pre .2) (z .pre .3)) in
+    omega (arith, z .pre .0 .all-cells, digits-lt h (z .pre .4))
+
+fold-of-requires : tie.Need-fold-of-requires
+fold-of-requires c κs =
+    let z = c .before .before .before .before .before .before in
+    let a = z .args in
+    (z .pre .0 .rows-fit, omega (arith, c .wide2 .ensures, z .pre .0 .inside (c .before .before .wide .result * a .m + a .a)), z .pre .1 .room)
 
 returns : tie.Need-returns
 returns c =
     let a = c .before .before .before .before .before .before .before .before .before .args in
-    new-target-is (a .cells .now) (a .scratch .now) (a .rows) (a .events) (a .c) (c .before .before .before .before .before .before .wide .ensures) (c .before .before .before .before .before .queue-at .ensures) (c .before .before .before .before .cell .ensures)
-    (c .before .before .before .target .ensures) (c .before .before .numbers-at .ensures) (c .before .wide2 .ensures) (c .cell2 .ensures)
+    λ k hi ha. new-target-is (a .cells .now) (a .scratch .now) (a .n) (a .m) k (a .i) (a .a) (c .before .before .before .before .before .wide .ensures) (c .before .before .before .wide2 .ensures) (c .before .before .fold-of .ensures .0) (omega (arith, c .if1 .taken)) hi ha
+
+returns-2 : tie.Need-returns-2
+returns-2 c =
+    let a = c .before .before .before .before .before .before .before .before .before .args in
+    λ k hi ha. new-target-is (a .cells .now) (a .scratch .now) (a .n) (a .m) k (a .i) (a .a) (c .before .before .before .before .before .wide .ensures) (c .before .before .before .wide2 .ensures) (c .before .before .fold-of .ensures .0) (omega arith) hi ha
 
 pub new-target-spec : {M : Type 1} → statement M
 new-target-spec =
     tie.close
+    
     (tie.spec
-    (λ c κs. search needs)
-    (λ c κs. search needs)
     (λ c. search needs)
-    add-cell
-    (λ c κs. search needs)
     (λ c. search needs)
-    cast-target
+    (λ c. search needs)
     (λ c κs. search needs)
+    mul-wide-2
+    add-wide-2
+    mul-wide-3
+    shared-slice-read-wide-2
     (λ c κs. search needs)
-    (λ c κs. search needs)
-    add-at
-    (λ c κs. search needs)
-    returns)
+    fold-of-requires
+    (λ c. search needs)
+    (λ c. search needs)
+    (λ c. search needs)
+    (λ c. search needs)
+    returns
+    (λ c. search needs)
+    returns-2)
