@@ -36,17 +36,20 @@ fn depth_of(lead: u16) -> Depth
     Depth::Number(lead - 1)
 }
 
-// The fate of a row with this lead that folds into `fold`, a row with this new number.
+// The fate of a row with this lead that folds into `fold`, and whose number is one more than its new one.
 fn fate_of(row: u16, lead: u16, fold: u16, number: u16) -> Fate
     ensures { λ r. ⌜ r ≡ fateBy row lead fold number ⌝ }
 {
     if lead == 0 {
         return Fate::Unreached;
     }
-    if fold == row {
-        return Fate::Kept(number);
+    if fold != row {
+        return Fate::Folded(fold);
     }
-    Fate::Folded(fold)
+    if number == 0 {
+        return Fate::Kept(0);
+    }
+    Fate::Kept(number - 1)
 }
 
 // The record of a row.
@@ -54,9 +57,10 @@ fn record_at(scratch: &[u16], rows: u16, row: u16) -> Record
     ensures { λ r. ⌜ r ≡ recordAt (now (scratch .entry)) rows row ⌝ }
 {
     let at = rules::wide(row);
-    let lead = scratch::cell(scratch, scratch::leads_at(rows) + at);
-    let fold = scratch::cell(scratch, scratch::folds_at(rows) + at);
-    let number = scratch::cell(scratch, scratch::numbers_at(rows) + at);
+    let n = rules::wide(rows);
+    let lead = scratch::cell(scratch, at);
+    let fold = scratch::cell(scratch, 2 * n + at);
+    let number = scratch::cell(scratch, 3 * n + at);
     Record {
         depth: depth_of(lead),
         fate: fate_of(row, lead, fold, number),

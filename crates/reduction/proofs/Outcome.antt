@@ -1,7 +1,9 @@
 -- What the work leaves, refused or not.
-use mathlib.Core.Path.{_≡_, refl, sym, ap, _∙_}
+use mathlib.Core.Path.{_≡_, refl, sym, ap, subst, _∙_}
+use mathlib.Core.Bool.{true, false}
 use mathlib.Core.List.{List}
-use Prim.Native.Nat.{ℕ, _≤_, _<_}
+use Prim.Native.Nat.{ℕ, _*_, _≤_, _<_}
+use native.Mathlib.Omega.{arith}
 use lib.ListN.{length, getD}
 use Rattle.tables.specs.Lists.{over}
 use Rattle.tables.specs.Table.{Table, Offset, Valid, weightBy}
@@ -9,67 +11,80 @@ use Rattle.tables.specs.Reduction.{reduced}
 use Rattle.rules.specs.Rules.{leftBy}
 use Rattle.rules.specs.declared.Verdict.{Verdict}
 use Rattle.rules.specs.declared.Verdict.the-variants.{Fine, Refused}
-use Rattle.folding.specs.Folding.{foldedIn}
-use Rattle.folding.proofs.FoldedIn.{folded-size}
-use Rattle.renumbering.specs.Renumber.{newRows, newScratch, newCells, newMarks, left, numbered}
-use Rattle.renumbering.proofs.Left.{all-room, has-room}
-use Rattle.scratch.specs.Scratch.{workable}
+use Rattle.scratch.specs.Scratch.{workableIn}
+use Rattle.scratch.proofs.Works.{valid-within}
+use Rattle.renumbering.specs.Renumber.{newRows, newCells, newMarks, NewScratch, left}
+use Rattle.renumbering.proofs.Left.{all-room, room-told}
+use Rattle.ways.specs.Ways.{needOf, FoldedBy}
+use Rattle.ways.specs.declared.Way.{Way}
+use Rattle.ways.proofs.Needs.{four-regions}
 use Rattle.reduction.specs.declared.Answer.the-variants as answer
 use Rattle.reduction.specs.declared.Done.{Done}
 use Rattle.reduction.specs.Reduce.{verdict}
-use Rattle.reduction.specs.Working.{workBy, worked, workedBy}
+use Rattle.reduction.specs.Working.{workBy, Worked}
 use Rattle.reduction.proofs.Room.{Roomy, verdict-valid, fine-roomy, roomy-works}
-use Rattle.reduction.proofs.Worked.{left-reduced}
+use Rattle.reduction.proofs.Worked.{left-reduced, told}
 
-module _ (k : Offset) (mask : ℕ) (T : Table) (bytes : (i : ℕ) → getD (T .marks) i 0 < 256) (cells marks scratch : List ℕ) (records : ℕ)
-    {v : Verdict} (hv : v ≡ verdict mask T (length cells) (length marks) records (length scratch)) where
+module _ (way : Way) (k : Offset) (mask : ℕ) (T : Table) (bytes : (i : ℕ) → getD (T .marks) i 0 < 256) (cells marks scratch : List ℕ) (records : ℕ)
+    {v : Verdict} (hv : v ≡ verdict (needOf way) mask T (length cells) (length marks) records (length scratch)) where
+  abbrev need : ℕ → ℕ
+  need = needOf way
+
   abbrev U : Table
   U = reduced (weightBy mask) k T
 
   -- What the contract says.
   abbrev Left : Verdict → Done → List ℕ → List ℕ → List ℕ → Type 0
-  Left u w c m s = (w ≡ workBy u k mask T) × (c ≡ leftBy u cells (U .cells)) × (m ≡ leftBy u marks (U .marks)) × (s ≡ workedBy u k mask T scratch)
-      × (verdict mask T (length cells) (length marks) records (length scratch) ≡ Fine → Valid T)
+  Left u w c m s = (w ≡ workBy need u k mask T) × (c ≡ leftBy u cells (U .cells)) × (m ≡ leftBy u marks (U .marks)) × Worked need u k mask T scratch s
+      × (u ≡ Fine → Valid T)
 
-  sound : verdict mask T (length cells) (length marks) records (length scratch) ≡ Fine → Valid T
-  sound e = verdict-valid mask T (length cells) (length marks) records (length scratch) e bytes
-
-  -- The parts by the verdict that was found.
-  parted : {u : Verdict} {w : Done} {c m s : List ℕ} → verdict mask T (length cells) (length marks) records (length scratch) ≡ u
-      → (w ≡ workBy u k mask T) × (c ≡ leftBy u cells (U .cells)) × (m ≡ leftBy u marks (U .marks)) × (s ≡ workedBy u k mask T scratch)
-      → Left (verdict mask T (length cells) (length marks) records (length scratch)) w c m s
-  parted {u} {w} {c} {m} {s} h p = (
-    p .0 ∙ ap (λ (x : Verdict). workBy x k mask T) (sym h),
-    p .1 ∙ ap (λ (x : Verdict). leftBy x cells (U .cells)) (sym h),
-    p .2 ∙ ap (λ (x : Verdict). leftBy x marks (U .marks)) (sym h),
-    p .3 ∙ ap (λ (x : Verdict). workedBy x k mask T scratch) (sym h),
-    sound,
-  )
+  sound : verdict need mask T (length cells) (length marks) records (length scratch) ≡ Fine → Valid T
+  sound e = verdict-valid need mask T (length cells) (length marks) records (length scratch) e bytes
 
   pub work-refused : (number place : ℕ) → v ≡ Refused number place
-      → Left (verdict mask T (length cells) (length marks) records (length scratch)) (record { answer = answer.Refused number place; rows = 0 }) cells marks scratch
-  work-refused number place e = parted (sym hv ∙ e) (refl, refl, refl, refl)
+      → Left (verdict need mask T (length cells) (length marks) records (length scratch)) (record { answer = answer.Refused number place; rows = 0; used = 0 }) cells marks scratch
+  work-refused number place e =
+      let h : Refused number place ≡ verdict need mask T (length cells) (length marks) records (length scratch) = sym e ∙ hv in
+      subst (λ (u : Verdict). Left u (record { answer = answer.Refused number place; rows = 0; used = 0 }) cells marks scratch) h (
+        refl,
+        refl,
+        refl,
+        record { told = λ f. absurd (differ f); size = refl; beyond = λ i g. refl; refused = λ a b g. refl },
+        λ f. absurd (differ f),
+      )
+    where
+      differ : Refused number place ≡ Fine → ⊥
+      differ f = let z : _≡_ {A = ℕ} 0 1 = cc in absurd (omega arith)
 
   module _ (e : v ≡ Fine) where
-    roomy : Roomy T (length cells) (length marks) records (length scratch)
-    roomy = fine-roomy mask T (length cells) (length marks) records (length scratch) (sym hv ∙ e) (sound (sym hv ∙ e))
+    roomy : Roomy need T (length cells) (length marks) records (length scratch)
+    roomy = fine-roomy need mask T (length cells) (length marks) records (length scratch) (sym hv ∙ e) (sound (sym hv ∙ e))
 
     pub fine-rows : T .rows ≤ 1024
     fine-rows = roomy .valid .rows-fit
 
-    pub work-fine : (s : List ℕ) → s ≡ foldedIn mask k T scratch → {r : ℕ} {t c m : List ℕ} → r ≡ newRows T s cells marks → t ≡ newScratch T s cells marks
-        → c ≡ newCells T s cells marks → m ≡ newMarks T s cells marks
-        → Left (verdict mask T (length cells) (length marks) records (length scratch)) (record { answer = answer.Reduced r; rows = T .rows }) c m t
-    unfolding worked
-    work-fine s hs {r} {t} {c} {m} hr ht hc hm =
-        let w = roomy-works roomy in
-        let size : length s ≡ length scratch = ap length hs ∙ folded-size mask k T scratch w in
-        let fit = all-room T s cells marks (ap (workable T) size ∙ w) (roomy .cells-fit) (roomy .marks-fit) in
-        let h = has-room T s cells marks fit in
-        let same : left T s ≡ U = ap (left T) hs ∙ left-reduced k mask T (roomy .valid) scratch (roomy .scratch-fits) in
-        parted (sym hv ∙ e) (
-          ap (λ (x : ℕ). record { answer = answer.Reduced x; rows = T .rows }) (hr ∙ sym (h .0) ∙ ap (λ (N : Table). N .rows) same),
-          hc ∙ sym (h .2) ∙ ap (λ (N : Table). over cells 0 (N .cells)) same,
-          hm ∙ sym (h .3) ∙ ap (λ (N : Table). over marks 0 (N .marks)) same,
-          ht ∙ sym (h .1) ∙ ap (numbered T) hs,
+    pub work-fine : (s : List ℕ) → (workableIn need T (length scratch) ≡ true → FoldedBy need mask k T scratch s)
+        → {r used : ℕ} {t c m : List ℕ} → r ≡ newRows T s cells marks → NewScratch T s cells marks t → c ≡ newCells T s cells marks → m ≡ newMarks T s cells marks
+        → used ≡ need (T .rows)
+        → Left (verdict need mask T (length cells) (length marks) records (length scratch)) (record { answer = answer.Reduced r; rows = T .rows; used = used }) c m t
+    work-fine s folded {r} {used} {t} {c} {m} hr ht hc hm hu =
+        let F = folded (roomy-works roomy) in
+        let works = valid-within (λ n. 4 * n) T (length s) (roomy .valid) (omega (arith, F .size, four-regions way (T .rows), roomy .scratch-fits)) in
+        let fit = all-room T s cells marks works (roomy .cells-fit) (roomy .marks-fit) in
+        let h = room-told T s cells marks fit hr ht hc hm in
+        let same : left T s ≡ U = left-reduced k mask T (roomy .valid) s (F .folds) in
+        subst (λ (u : Verdict). Left u (record { answer = answer.Reduced r; rows = T .rows; used = used }) c m t) (sym e ∙ hv) (
+          (λ i. record { answer = answer.Reduced ((h .0 ∙ ap (λ (N : Table). N .rows) same) i); rows = T .rows; used = hu i }),
+          h .2 ∙ ap (λ (N : Table). over cells 0 (N .cells)) same,
+          h .3 ∙ ap (λ (N : Table). over marks 0 (N .marks)) same,
+          record {
+            told = λ f. told k mask T (roomy .valid) s (F .folds) t (h .1);
+            size = h .1 .1 .size ∙ F .size;
+            beyond = λ i g. h .1 .1 .behind i (omega (arith, four-regions way (T .rows))) ∙ F .beyond i g;
+            refused = λ a b f. absurd (differ f);
+          },
+          λ f. roomy .valid,
         )
+      where
+        differ : {a b : ℕ} → Fine ≡ Refused a b → ⊥
+        differ {a} {b} f = let z : _≡_ {A = ℕ} 0 1 = cc in absurd (omega arith)

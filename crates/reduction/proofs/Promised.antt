@@ -15,15 +15,14 @@ use Rattle.tables.proofs.Theorems.{never-more, valid, agrees, agrees-none, fewe
 use Rattle.rules.specs.Rules.{leftBy}
 use Rattle.rules.specs.declared.Verdict.{Verdict}
 use Rattle.rules.specs.declared.Verdict.the-variants.{Fine, Refused}
-use Rattle.scratch.specs.Scratch.{triangle, needed, scratchCells, cleared}
-use Rattle.scratch.proofs.Cells.{clear-front}
+use Rattle.scratch.specs.Scratch.{cleared}
+use Rattle.scratch.proofs.Cells.{clear-front, clear-work}
 use Rattle.reduction.specs.declared.Answer.{Answer}
 use Rattle.reduction.specs.declared.Answer.the-variants as answer
 use Rattle.reduction.specs.declared.Done.{Done}
 use Rattle.reduction.specs.Reduce.{verdict, answerBy, from, written, Promise}
-use Rattle.reduction.specs.Working.{recorded, workBy, workedBy}
+use Rattle.reduction.specs.Working.{unlessRefused, workBy, Worked}
 use Rattle.reduction.proofs.Room.{Roomy, fine-roomy}
-use Rattle.reduction.proofs.Worked.{worked-cleared}
 
 -- An answer with a row count is given where no rule is broken.
 counted : (v : Verdict) (m n : ℕ) → answerBy v m ≡ answer.Reduced n → (v ≡ Fine) × (m ≡ n)
@@ -35,15 +34,15 @@ table : (U : Table) {c m : List ℕ} {e s : ℕ} → c ≡ U .cells → m ≡ U 
     → _≡_ {A = Table} (record { rows = U .rows; events = e; start = s; cells = c; marks = m }) U
 table U hc hm he hs = rw (hc, hm, he, hs)
 
-module _ (k : Offset) (mask : ℕ) (T : Table) (cells marks scratch : List ℕ) (records : ℕ) (sound : verdict mask T (length cells) (length marks) records (length scratch) ≡ Fine → Valid T) where
+module _ (need : ℕ → ℕ) (k : Offset) (mask : ℕ) (T : Table) (cells marks scratch : List ℕ) (records : ℕ) (sound : verdict need mask T (length cells) (length marks) records (length scratch) ≡ Fine → Valid T) where
   abbrev v : Verdict
-  v = verdict mask T (length cells) (length marks) records (length scratch)
+  v = verdict need mask T (length cells) (length marks) records (length scratch)
 
   abbrev U : Table
   U = reduced (weightBy mask) k T
 
   -- What stands in the buffers is the reduced table.
-  written-is : Roomy T (length cells) (length marks) records (length scratch) → written (U .rows) (T .events) (over cells 0 (U .cells)) (over marks 0 (U .marks)) ≡ U
+  written-is : Roomy need T (length cells) (length marks) records (length scratch) → written (U .rows) (T .events) (over cells 0 (U .cells)) (over marks 0 (U .marks)) ≡ U
   written-is r =
       let w = valid (weightBy mask) (mask-light mask T .at-most) T (r .valid) k in
       let rows = never-more (weightBy mask) (mask-light mask T .at-most) T (r .valid) k in
@@ -67,8 +66,8 @@ module _ (k : Offset) (mask : ℕ) (T : Table) (cells marks scratch : List ℕ) 
     fine : v ≡ Fine
     fine = counted v (U .rows) n (sym hr ∙ e) .0
 
-    roomy : Roomy T (length cells) (length marks) records (length scratch)
-    roomy = fine-roomy mask T (length cells) (length marks) records (length scratch) fine (sound fine)
+    roomy : Roomy need T (length cells) (length marks) records (length scratch)
+    roomy = fine-roomy need mask T (length cells) (length marks) records (length scratch) fine (sound fine)
 
     stands : written n (T .events) cells′ marks′ ≡ U
     stands =
@@ -87,25 +86,22 @@ module _ (k : Offset) (mask : ℕ) (T : Table) (cells marks scratch : List ℕ) 
     keeps-valid = (subst Valid (sym stands) (valid (weightBy mask) (mask-light mask T .at-most) T (roomy .valid) k), refl)
 
   -- Cleared after the work, the scratch is as promised.
-  finished : (u : Verdict) → verdict mask T (length cells) (length marks) records (length scratch) ≡ u
-      → cleared (workedBy u k mask T scratch) 0 (needed (recorded u (T .rows))) ≡ leftBy u scratch (replicate (scratchCells (T .rows)) 0)
-  unfolding triangle
-  finished Fine e =
-      let r = fine-roomy mask T (length cells) (length marks) records (length scratch) e (sound e) in
-      worked-cleared k mask T (r .valid) scratch (r .scratch-fits)
-  finished (Refused number place) e = clear-front scratch 0 (omega arith) ∙ over-none scratch 0
+  finished : (u : Verdict) → v ≡ u → (t : List ℕ) → Worked need u k mask T scratch t → cleared t 0 (unlessRefused u (need (T .rows))) ≡ leftBy u scratch (replicate (need (T .rows)) 0)
+  finished Fine e t w =
+      let r = fine-roomy need mask T (length cells) (length marks) records (length scratch) e (sound e) in
+      clear-work (need (T .rows)) scratch t (r .scratch-fits) (w .size) (w .beyond)
+  finished (Refused number place) e t w = ap (λ (x : List ℕ). cleared x 0 0) (w .refused number place refl) ∙ clear-front scratch 0 (omega arith) ∙ over-none scratch 0
 
   -- The promise: w is what the work answers, and t the scratch that it leaves.
-  pub promised : (w : Done) (cells′ marks′ t scratch′ : List ℕ) → w ≡ workBy v k mask T → cells′ ≡ leftBy v cells (U .cells) → marks′ ≡ leftBy v marks (U .marks)
-      → t ≡ workedBy v k mask T scratch → scratch′ ≡ cleared t 0 (needed (w .rows)) → Promise v k mask T cells marks scratch (w .answer) cells′ marks′ scratch′
+  pub promised : (w : Done) (cells′ marks′ t scratch′ : List ℕ) → w ≡ workBy need v k mask T → cells′ ≡ leftBy v cells (U .cells) → marks′ ≡ leftBy v marks (U .marks)
+      → Worked need v k mask T scratch t → scratch′ ≡ cleared t 0 (w .used) → Promise need v k mask T cells marks scratch (w .answer) cells′ marks′ scratch′
   promised w cells′ marks′ t scratch′ hw hc hm ht hs =
       let hr : w .answer ≡ answerBy v (U .rows) = ap (λ (d : Done). d .answer) hw in
       record {
         answers = hr;
         cells-after = hc;
         marks-after = hm;
-        scratch-after =
-            hs ∙ ap (λ (d : Done). cleared t 0 (needed (d .rows))) hw ∙ ap (λ (x : List ℕ). cleared x 0 (needed (recorded v (T .rows)))) ht ∙ finished v refl;
+        scratch-after = hs ∙ ap (λ (d : Done). cleared t 0 (d .used)) hw ∙ finished v refl t ht;
         demand-2 = keeps-2 (w .answer) cells′ marks′ hr hc hm;
         demand-3 = keeps-3 (w .answer) cells′ marks′ hr hc hm;
         one-of-those = keeps-valid (w .answer) cells′ marks′ hr hc hm;

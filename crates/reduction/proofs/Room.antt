@@ -13,9 +13,8 @@ use Rattle.rules.specs.declared.Verdict.{Verdict}
 use Rattle.rules.specs.declared.Verdict.the-variants.{Fine, Refused}
 use Rattle.rules.proofs.Checks.{unbroken, passed}
 use Rattle.rules.proofs.First.{room-broken, room-kept, table-refused, table-then, fine-valid, more-fine}
-use Rattle.scratch.specs.Scratch.{needed, scratchCells, workable}
-use Rattle.scratch.proofs.Triangle.{needed-value}
-use Rattle.scratch.proofs.Works.{valid-workable}
+use Rattle.scratch.specs.Scratch.{workableIn}
+use Rattle.scratch.proofs.Works.{valid-within}
 use Rattle.reduction.specs.Reduce.{roomChecks, verdict}
 
 -- A product of numbers as the code has them.
@@ -26,9 +25,9 @@ pub less-product : {x y rows events cells : ℕ} → x ≡ rows → y ≡ events
 less-product {x} {y} {rows} {events} {cells} e f h = subst (λ (m : ℕ). cells < m) (ap (λ (u : ℕ). u * y) e ∙ ap (λ (u : ℕ). rows * u) f) h
 
 -- The checks stop at the first buffer that is short.
-module _ (rows events cells marks records scratch : ℕ) where
+module _ (need : ℕ → ℕ) (rows events cells marks records scratch : ℕ) where
   abbrev checks : Verdict
-  checks = judged (roomChecks rows events cells marks records scratch)
+  checks = judged (roomChecks need rows events cells marks records scratch)
 
   pub short-cells : cells < rows * events → Refused 7 0 ≡ checks
   short-cells h = sym (rw (room-broken (rows * events) (cells) h))
@@ -42,55 +41,52 @@ module _ (rows events cells marks records scratch : ℕ) where
       short-records h = sym (rw (room-kept (rows * events) (cells) c, room-kept (markBytes rows) (marks) m, room-broken (rows) (records) h))
 
       module _ (r : rows ≤ records) where
-        pub short-scratch : scratch < needed rows → Refused 7 0 ≡ checks
+        pub short-scratch : scratch < need rows → Refused 7 0 ≡ checks
         short-scratch h =
-            let g : scratch < scratchCells rows = omega (arith, needed-value rows) in
-            sym (rw (room-kept (rows * events) (cells) c, room-kept (markBytes rows) (marks) m, room-kept (rows) (records) r, room-broken (scratchCells rows) (scratch) g))
+            sym (rw (room-kept (rows * events) (cells) c, room-kept (markBytes rows) (marks) m, room-kept (rows) (records) r, room-broken (need rows) (scratch) h))
 
-        pub all-fits : needed rows ≤ scratch → Fine ≡ checks
+        pub all-fits : need rows ≤ scratch → Fine ≡ checks
         all-fits h =
-            let g : scratchCells rows ≤ scratch = omega (arith, needed-value rows) in
-            sym (rw (room-kept (rows * events) (cells) c, room-kept (markBytes rows) (marks) m, room-kept (rows) (records) r, room-kept (scratchCells rows) (scratch) g))
+            sym (rw (room-kept (rows * events) (cells) c, room-kept (markBytes rows) (marks) m, room-kept (rows) (records) r, room-kept (need rows) (scratch) h))
 
 -- The verdict as the code makes it: of the table's and the mask's checks with the limits given, and then of the room.
-module _ (mask : ℕ) (T : Table) (cells marks records scratch : ℕ) {L : Limits} {v : Verdict} (l : L ≡ winch) (e : v ≡ judged (maskedChecks L mask T)) where
+module _ (need : ℕ → ℕ) (mask : ℕ) (T : Table) (cells marks records scratch : ℕ) {L : Limits} {v : Verdict} (l : L ≡ winch) (e : v ≡ judged (maskedChecks L mask T)) where
   abbrev room : List Verdict
-  room = roomChecks (T .rows) (T .events) cells marks records scratch
+  room = roomChecks need (T .rows) (T .events) cells marks records scratch
 
-  pub verdict-refused : (number place : ℕ) → v ≡ Refused number place → Refused number place ≡ verdict mask T cells marks records scratch
+  pub verdict-refused : (number place : ℕ) → v ≡ Refused number place → Refused number place ≡ verdict need mask T cells marks records scratch
   unfolding verdict
   verdict-refused = table-refused T (maskRule mask (T .events) ∷ []) l e room
 
-  pub verdict-room : v ≡ Fine → {u : Verdict} → u ≡ judged room → u ≡ verdict mask T cells marks records scratch
+  pub verdict-room : v ≡ Fine → {u : Verdict} → u ≡ judged room → u ≡ verdict need mask T cells marks records scratch
   unfolding verdict
   verdict-room h g = table-then T (maskRule mask (T .events) ∷ []) l e h room g
 
 -- No rule broken: the table is valid, and each buffer is long enough.
-pub record Roomy (T : Table) (cells marks records scratch : ℕ) : Type 0 where
+pub record Roomy (need : ℕ → ℕ) (T : Table) (cells marks records scratch : ℕ) : Type 0 where
   pub valid : Valid T
   pub cells-fit : T .rows * T .events ≤ cells
   pub marks-fit : markBytes (T .rows) ≤ marks
   pub records-fit : T .rows ≤ records
-  pub scratch-fits : needed (T .rows) ≤ scratch
+  pub scratch-fits : need (T .rows) ≤ scratch
 
-module _ (mask : ℕ) (T : Table) (cells marks records scratch : ℕ) (e : verdict mask T cells marks records scratch ≡ Fine) where
+module _ (need : ℕ → ℕ) (mask : ℕ) (T : Table) (cells marks records scratch : ℕ) (e : verdict need mask T cells marks records scratch ≡ Fine) where
   pub verdict-valid : ((i : ℕ) → getD (T .marks) i 0 < 256) → Valid T
   unfolding verdict
-  verdict-valid bytes = fine-valid T (maskRule mask (T .events) ∷ roomChecks (T .rows) (T .events) cells marks records scratch) e bytes
+  verdict-valid bytes = fine-valid T (maskRule mask (T .events) ∷ roomChecks need (T .rows) (T .events) cells marks records scratch) e bytes
 
-  pub fine-roomy : Valid T → Roomy T cells marks records scratch
+  pub fine-roomy : Valid T → Roomy need T cells marks records scratch
   unfolding verdict
   fine-roomy v =
-      let more = maskRule mask (T .events) ∷ roomChecks (T .rows) (T .events) cells marks records scratch in
+      let more = maskRule mask (T .events) ∷ roomChecks need (T .rows) (T .events) cells marks records scratch in
       let at = passed more (more-fine T more e) in
-      let enough : scratchCells (T .rows) ≤ scratch = ltb-false _ _ (unbroken _ _ _ (at 4)) in
       record {
         valid = v;
         cells-fit = ltb-false _ _ (unbroken _ _ _ (at 1));
         marks-fit = ltb-false _ _ (unbroken _ _ _ (at 2));
         records-fit = ltb-false _ _ (unbroken _ _ _ (at 3));
-        scratch-fits = omega (arith, needed-value (T .rows));
+        scratch-fits = ltb-false _ _ (unbroken _ _ _ (at 4));
       }
 
-pub roomy-works : {T : Table} {cells marks records scratch : ℕ} → Roomy T cells marks records scratch → workable T scratch ≡ true
-roomy-works {T} {cells} {marks} {records} {scratch} h = valid-workable T scratch (h .valid) (h .scratch-fits)
+pub roomy-works : {need : ℕ → ℕ} {T : Table} {cells marks records scratch : ℕ} → Roomy need T cells marks records scratch → workableIn need T scratch ≡ true
+roomy-works {need} {T} {cells} {marks} {records} {scratch} h = valid-within need T scratch (h .valid) (h .scratch-fits)

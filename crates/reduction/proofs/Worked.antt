@@ -1,28 +1,29 @@
--- A table that was worked on: what was written is the reduction, and the scratch tells each row's depth and fate.
-use mathlib.Core.Path.{_≡_, refl, ap, _∙_}
+-- Rows that were folded and numbered: what was written is the reduction, and the scratch tells each row's depth and fate.
+use mathlib.Core.Path.{_≡_, refl, sym, ap, subst, _∙_}
 use mathlib.Core.Bool.{true}
 use mathlib.Core.List.{List}
-use Prim.Native.Nat.{ℕ, _+_, _≤_, _<_}
+use Prim.Native.Nat.{ℕ, _+_, _-_, _*_, _≤_, _<_}
 use native.Mathlib.Omega.{arith}
-use lib.ListN.{length, getD, replicate}
+use borrow.Author.Tests.{lt-ltb, eq-eqb}
+use lib.ListN.{length, getD}
 use Rattle.automata.specs.Runs.{Events, Machine}
-use Rattle.tables.specs.Lists.{over}
-use Rattle.tables.specs.Table.{Table, Offset, Valid, machine, eventsOf, weightBy, targetOf}
-use Rattle.tables.specs.Lengths.{lead}
-use Rattle.tables.specs.Reduction.{fold, number, reduced}
-use Rattle.tables.proofs.Lists.{tabulate-length, tabulate-at}
-use Rattle.tables.proofs.Numbering.{number-same, renumbered-same}
-use Rattle.tables.proofs.Over.{over-length, over-inside, over-before, over-behind}
-use Rattle.scratch.specs.Scratch.{leadsAt, queueAt, foldsAt, numbersAt, needed, lenCell, scratchCells, workable, cleared, foldIn}
-use Rattle.scratch.proofs.Cells.{clear-work}
-use Rattle.scratch.proofs.Works.{valid-workable}
-use Rattle.folding.specs.Folding.{foldedIn}
-use Rattle.folding.proofs.FoldedIn.{folded-size, folded-fold, folded-lead, folded-beyond}
-use Rattle.renumbering.specs.Renumber.{line, numberCells, left, numbered}
-use Rattle.renumbering.proofs.Lining.{cells-rows, line-short}
-use Rattle.reduction.specs.Working.{worked}
+use Rattle.automata.proofs.Lists.{Mem}
+use Rattle.tables.specs.Lists.{place}
+use Rattle.tables.specs.Table.{Table, Offset, Valid, machine, eventsOf, weightBy}
+use Rattle.tables.specs.Lengths.{reached}
+use Rattle.tables.specs.Reduction.{kept, fold, number, numbering, reduced}
+use Rattle.tables.proofs.Counted.{mask-light}
+use Rattle.tables.proofs.Lists.{some-mem}
+use Rattle.tables.proofs.Numbering.{numbering-same, renumbered-same}
+use Rattle.tables.proofs.Theorems.{Reached, start-reached, target-reached, fold-reached, kept-itself, kept-met}
+use Rattle.scratch.specs.Folds.{Folds}
+use Rattle.renumbering.specs.Line.{foldRow}
+use Rattle.renumbering.specs.Renumber.{line, left, Numbered}
+use Rattle.renumbering.proofs.Lines.{line-fits}
+use Rattle.renumbering.proofs.Left.{line-number}
+use Rattle.reduction.specs.Working.{Told}
 
-module _ (k : Offset) (mask : ℕ) (T : Table) (v : Valid T) (s : List ℕ) (room : needed (T .rows) ≤ length s) where
+module _ (k : Offset) (mask : ℕ) (T : Table) (v : Valid T) (s : List ℕ) (F : Folds (eventsOf (weightBy mask) T) (machine T) k s) where
   abbrev n : ℕ
   n = T .rows
 
@@ -32,89 +33,51 @@ module _ (k : Offset) (mask : ℕ) (T : Table) (v : Valid T) (s : List ℕ) (roo
   abbrev M : Machine
   M = machine T
 
-  -- the scratch with the folds
-  abbrev F : List ℕ
-  F = foldedIn mask k T s
+  light : (a : ℕ) → weightBy mask a ≤ 1
+  light = mask-light mask T .at-most
 
-  works : workable T (length s) ≡ true
-  works = valid-workable T (length s) v room
+  abbrev Here : ℕ → Type 0
+  Here = Reached (weightBy mask) light T v
 
-  same-size : length F ≡ length s
-  same-size = folded-size mask k T s works
+  folds-are : (q : ℕ) → Here q → foldRow n s q ≡ fold E M k q
+  folds-are q h =
+      let e = F .folds q (h .0) (h .1) in
+      let low : getD s (2 * n + q) 0 < n = omega (arith, e, fold-reached (weightBy mask) light T v k q h .0) in
+      rw (lt-ltb (getD s (2 * n + q) 0) n low) e
 
-  pub still-room : needed n ≤ length F
-  still-room = omega (arith, same-size)
+  at-target : (x a : ℕ) → Here x → a < T .events → foldRow n s (M .target x a) ≡ fold E M k (M .target x a)
+  at-target x a h ha = folds-are (M .target x a) (target-reached (weightBy mask) light T v x a h ha)
 
-  folds-are : (q : ℕ) → q < n → foldIn F n q ≡ fold E M k q
-  folds-are q h = folded-fold mask k T s works q h
+  next-here : (x a : ℕ) → Here x → a < T .events → Here (fold E M k (M .target x a))
+  next-here x a h ha = fold-reached (weightBy mask) light T v k (M .target x a) (target-reached (weightBy mask) light T v x a h ha)
 
   -- The table that is left is the reduction.
-  pub left-reduced : left T F ≡ reduced (weightBy mask) k T
+  pub left-reduced : left T s ≡ reduced (weightBy mask) k T
   unfolding left reduced
-  left-reduced = renumbered-same (E .count) M (foldIn F n) (fold E M k) (folds-are (T .start) (v .start-in)) (λ x a. folds-are (targetOf T x a) (cells-rows T v _))
+  left-reduced =
+      renumbered-same (T .events) M (foldRow n s) (fold E M k) Here (folds-are (T .start) (start-reached (weightBy mask) light T v))
+      (fold-reached (weightBy mask) light T v k (T .start) (start-reached (weightBy mask) light T v)) at-target next-here
 
-  -- ---- the scratch
+  line-is : line T s ≡ numbering (T .events) M (fold E M k)
+  unfolding line
+  line-is =
+      numbering-same (T .events) M (foldRow n s) (fold E M k) Here (folds-are (T .start) (start-reached (weightBy mask) light T v))
+      (fold-reached (weightBy mask) light T v k (T .start) (start-reached (weightBy mask) light T v)) at-target next-here
 
-  line-fits : queueAt n + length (line T F) ≤ length F
-  line-fits = omega (arith, line-short T v F still-room, still-room)
+  -- A kept row is in line.
+  in-line : (q : ℕ) → Here q → fold E M k q ≡ q → Mem q (line T s)
+  in-line q h e =
+      subst (Mem q) (sym line-is) (kept-met (weightBy mask) light T v k q (some-mem q (kept E M k) (kept-itself (weightBy mask) light T v k q (h .0) (h .1) ∙ eq-eqb (fold E M k q) q e)))
 
-  lined : List ℕ
-  lined = over F (queueAt n) (line T F)
-
-  lined-size : length lined ≡ length F
-  unfolding lined
-  lined-size = over-length F (queueAt n) (line T F) line-fits
-
-  numbers-size : length (numberCells T F) ≡ n
-  unfolding numberCells
-  numbers-size = tabulate-length n (number (E .count) M (foldIn F n))
-
-  numbers-fit : numbersAt n + length (numberCells T F) ≤ length lined
-  numbers-fit = omega (arith, numbers-size, lined-size, still-room)
-
-  worked-is : worked k mask T s ≡ over lined (numbersAt n) (numberCells T F)
-  unfolding worked numbered lined
-  worked-is = refl
-
-  pub worked-size : length (worked k mask T s) ≡ length s
-  worked-size = ap length worked-is ∙ over-length lined (numbersAt n) (numberCells T F) numbers-fit ∙ lined-size ∙ same-size
-
-  -- A cell of scratch before the numbers and outside the line is as the folding left it.
-  before : (i : ℕ) → i < queueAt n → getD (worked k mask T s) i 0 ≡ getD F i 0
-  unfolding lined
-  before i h =
-      ap (λ (l : List ℕ). getD l i 0) worked-is
-      ∙ over-before lined (numbersAt n) (numberCells T F) numbers-fit i 0 (omega arith)
-      ∙ over-before F (queueAt n) (line T F) line-fits i 0 h
-
-  pub worked-lead : (q : ℕ) → q < n → getD (worked k mask T s) (leadsAt n + q) 0 ≡ lenCell (lead E M q)
-  worked-lead q h =
-      before (leadsAt n + q) (omega arith) ∙ folded-lead mask k T s works q h
-
-  pub worked-fold : (q : ℕ) → q < n → getD (worked k mask T s) (foldsAt n + q) 0 ≡ fold E M k q
-  unfolding lined
-  worked-fold q h =
-      ap (λ (l : List ℕ). getD l (foldsAt n + q) 0) worked-is
-      ∙ over-before lined (numbersAt n) (numberCells T F) numbers-fit (foldsAt n + q) 0 (omega arith)
-      ∙ over-behind F (queueAt n) (line T F) line-fits (foldsAt n + q) 0 (omega (arith, line-short T v F still-room))
-      ∙ folds-are q h
-
-  pub worked-number : (q : ℕ) → q < n → getD (worked k mask T s) (numbersAt n + q) 0 ≡ number (E .count) M (fold E M k) q
-  unfolding numberCells
-  worked-number q h =
-      ap (λ (l : List ℕ). getD l (numbersAt n + q) 0) worked-is
-      ∙ over-inside lined (numbersAt n) (numberCells T F) numbers-fit q 0 (omega (arith, numbers-size))
-      ∙ tabulate-at n (number (E .count) M (foldIn F n)) q 0 h
-      ∙ number-same (E .count) M (foldIn F n) (fold E M k) (folds-are (T .start) (v .start-in)) (λ x a. folds-are (targetOf T x a) (cells-rows T v _)) q (folds-are q h)
-
-  worked-beyond : (i : ℕ) → needed n ≤ i → getD (worked k mask T s) i 0 ≡ getD s i 0
-  unfolding lined
-  worked-beyond i h =
-      ap (λ (l : List ℕ). getD l i 0) worked-is
-      ∙ over-behind lined (numbersAt n) (numberCells T F) numbers-fit i 0 (omega (arith, numbers-size))
-      ∙ over-behind F (queueAt n) (line T F) line-fits i 0 (omega (arith, line-short T v F still-room))
-      ∙ folded-beyond mask k T s works i (omega arith)
-
-  -- Cleared, the scratch is as it was but for the zeros in front.
-  pub worked-cleared : cleared (worked k mask T s) 0 (needed n) ≡ over s 0 (replicate (scratchCells n) 0)
-  worked-cleared = clear-work n s (worked k mask T s) room worked-size worked-beyond
+  -- What the scratch tells once the rows have their numbers.
+  pub told : (t : List ℕ) → Numbered T s t → Told E M k t
+  unfolding number
+  told t g =
+      let short = line-fits n (line T s) t (g .0) in
+      record {
+        leads = λ q h. g .1 .leads q h ∙ F .leads q h;
+        folds = λ q h u. g .1 .rest (2 * n + q) (omega (arith, short)) (omega arith) ∙ F .folds q h u;
+        numbers = λ q h u e.
+            line-number T v s t g (length (line T s)) refl q (in-line q (h, u) e) ∙ ap (place q) line-is
+            ∙ ap (λ (x : ℕ). place x (numbering (T .events) M (fold E M k))) (sym e);
+      }

@@ -9,22 +9,21 @@ use Rattle.tables.specs.Reduction.{reduced}
 use Rattle.rules.specs.Rules.{judged, winch, roomRule, maskedChecks, tableOf, leftBy}
 use Rattle.rules.specs.declared.Verdict.{Verdict}
 use Rattle.rules.specs.declared.Verdict.the-variants.{Fine, Refused}
-use Rattle.scratch.specs.Scratch.{scratchCells}
 use Rattle.reduction.specs.declared.Answer.{Answer}
 use Rattle.reduction.specs.declared.Answer.the-variants as answer
 
--- Rule 7, for a table of so many rows and events, where the lent buffers have so many cells, mark bytes, records and scratch cells.
-abbrev pub roomChecks : ℕ → ℕ → ℕ → ℕ → ℕ → ℕ → List Verdict
-roomChecks rows events cells marks records scratch =
-    roomRule (rows * events) cells ∷ roomRule (markBytes rows) marks ∷ roomRule rows records ∷ roomRule (scratchCells rows) scratch ∷ []
+-- Rule 7, for a table of so many rows and events, where the lent buffers have so many cells, mark bytes, records and scratch cells; `need` says how many of the last so many rows need.
+abbrev pub roomChecks : (ℕ → ℕ) → ℕ → ℕ → ℕ → ℕ → ℕ → ℕ → List Verdict
+roomChecks need rows events cells marks records scratch =
+    roomRule (rows * events) cells ∷ roomRule (markBytes rows) marks ∷ roomRule rows records ∷ roomRule (need rows) scratch ∷ []
 
 -- Rules 1 to 7 in number order, with 16 straight after 6.
-abbrev pub reduceChecks : ℕ → Table → ℕ → ℕ → ℕ → ℕ → List Verdict
-reduceChecks mask T cells marks records scratch = maskedChecks winch mask T ++ roomChecks (T .rows) (T .events) cells marks records scratch
+abbrev pub reduceChecks : (ℕ → ℕ) → ℕ → Table → ℕ → ℕ → ℕ → ℕ → List Verdict
+reduceChecks need mask T cells marks records scratch = maskedChecks winch mask T ++ roomChecks need (T .rows) (T .events) cells marks records scratch
 
 -- The first rule broken, if one is.
-unfoldable pub verdict : ℕ → Table → ℕ → ℕ → ℕ → ℕ → Verdict
-verdict mask T cells marks records scratch = judged (reduceChecks mask T cells marks records scratch)
+unfoldable pub verdict : (ℕ → ℕ) → ℕ → Table → ℕ → ℕ → ℕ → ℕ → Verdict
+verdict need mask T cells marks records scratch = judged (reduceChecks need mask T cells marks records scratch)
 
 -- The answer: the new row count, or the refusal.
 abbrev pub answerBy : Verdict → ℕ → Answer
@@ -40,13 +39,13 @@ from none T = 2 * T .rows
 abbrev pub written : ℕ → ℕ → List ℕ → List ℕ → Table
 written rows events cells marks = tableOf rows events 0 (take (rows * events) cells) (take (markBytes rows) marks)
 
--- What a call promises, given which events count, what the buffers hold before and after, and its answer.
-pub record Promise (v : Verdict) (k : Offset) (mask : ℕ) (T : Table) (cells marks scratch : List ℕ) (r : Answer) (cells′ marks′ scratch′ : List ℕ) : Type 0 where
+-- What a call promises, given how much scratch it needs, which events count, what the buffers hold before and after, and its answer.
+pub record Promise (need : ℕ → ℕ) (v : Verdict) (k : Offset) (mask : ℕ) (T : Table) (cells marks scratch : List ℕ) (r : Answer) (cells′ marks′ scratch′ : List ℕ) : Type 0 where
   -- Demand 1: the first rule broken gives the answer, and then every buffer is unchanged.
   pub answers : r ≡ answerBy v (reduced (weightBy mask) k T .rows)
   pub cells-after : cells′ ≡ leftBy v cells (reduced (weightBy mask) k T .cells)
   pub marks-after : marks′ ≡ leftBy v marks (reduced (weightBy mask) k T .marks)
-  pub scratch-after : scratch′ ≡ leftBy v scratch (replicate (scratchCells (T .rows)) 0)
+  pub scratch-after : scratch′ ≡ leftBy v scratch (replicate (need (T .rows)) 0)
   -- Demand 2: the table that was written agrees with the given one after every run of so many counted events as the offset says, or more.
   pub demand-2 : (n : ℕ) → r ≡ answer.Reduced n → AgreeFrom (eventsOf (weightBy mask) T) (from k T) (machine T) (machine (written n (T .events) cells′ marks′))
   -- Demand 3: every table over the same events, of which the same count, that agrees so has at least as many rows.

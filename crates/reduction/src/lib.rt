@@ -3,11 +3,14 @@ ghost use mathlib.Core.Path.{_≡_};
 ghost use lib.ListN.{length};
 ghost use Rattle.rules.specs.Rules.{tableOf, offsetOf, judged, leftBy};
 ghost use Rattle.tables.specs.Table.{Valid, weightBy};
+ghost use Rattle.ways.specs.Ways.{needOf};
 ghost use Rattle.rules.specs.declared.Verdict.the-variants.{Fine};
 ghost use Rattle.tables.specs.Reduction.{reduced};
-ghost use Rattle.scratch.specs.Scratch.{needed, cleared};
+ghost use Rattle.scratch.specs.Scratch.{cleared};
 ghost use Rattle.reduction.specs.Reduce.{roomChecks, verdict, Promise};
-ghost use Rattle.reduction.specs.Working.{workBy, workedBy};
+ghost use Rattle.reduction.specs.Working.{workBy, Worked};
+
+use ways::Way;
 
 // The new row count, or the number and place of the first rule broken.
 pub enum Answer {
@@ -15,14 +18,16 @@ pub enum Answer {
     Refused(usize, usize),
 }
 
-// The answer, and of how many given rows there are records to write: none on a refusal.
+// The answer, of how many given rows there are records to write, and how many scratch cells were used: none on a refusal.
 pub struct Done {
     pub answer: Answer,
     pub rows: u16,
+    pub used: usize,
 }
 
 // Rule 7: the lent cells, mark bytes, records and scratch cells, for a table of so many rows and events.
 fn check_room(
+    way: Way,
     rows: u16,
     events: u16,
     cells: usize,
@@ -30,7 +35,7 @@ fn check_room(
     records: usize,
     scratch: usize,
 ) -> rules::Verdict
-    ensures { λ r. ⌜ r ≡ judged (roomChecks rows events cells marks records scratch) ⌝ }
+    ensures { λ r. ⌜ r ≡ judged (roomChecks (needOf way) rows events cells marks records scratch) ⌝ }
 {
     if cells < rules::wide(rows) * rules::wide(events) {
         return rules::Verdict::Refused(7, 0);
@@ -41,7 +46,7 @@ fn check_room(
     if records < rules::wide(rows) {
         return rules::Verdict::Refused(7, 0);
     }
-    if scratch < scratch::needed(rows) {
+    if scratch < ways::needed(way, rows) {
         return rules::Verdict::Refused(7, 0);
     }
     rules::Verdict::Fine
@@ -49,6 +54,7 @@ fn check_room(
 
 // Rules 1 to 6, 16 and 7.
 fn check(
+    way: Way,
     mask: u32,
     rows: usize,
     events: usize,
@@ -60,11 +66,12 @@ fn check(
     recordroom: usize,
     room: usize,
 ) -> rules::Verdict
-    ensures { λ r. ⌜ r ≡ verdict mask (tableOf rows events start (now (cells .entry)) (now (marks .entry))) cellroom markroom recordroom room ⌝ }
+    ensures { λ r. ⌜ r ≡ verdict (needOf way) mask (tableOf rows events start (now (cells .entry)) (now (marks .entry))) cellroom markroom recordroom room ⌝ }
 {
     match rules::check_masked(rules::winch(), mask, rows, events, start, cells, marks) {
         rules::Verdict::Refused(number, place) => rules::Verdict::Refused(number, place),
         rules::Verdict::Fine => check_room(
+            way,
             rows as u16,
             events as u16,
             cellroom,
@@ -77,6 +84,7 @@ fn check(
 
 // Checks, reduces, and writes the new table; what the records say stands in scratch.
 pub fn work(
+    way: Way,
     offset: rules::Offset,
     mask: u32,
     rows: usize,
@@ -91,14 +99,15 @@ pub fn work(
 ) -> Done
     ensures { λ r. ⌜ (let T = tableOf rows events start (now (cells .entry)) (now (marks .entry)) in let k = offsetOf offset in
         let lent = now (newcells .entry) in let bytes = now (newmarks .entry) in let s = now (scratch .entry) in
-        let v = verdict mask T (length lent) (length bytes) room (length s) in
-        (r ≡ workBy v k mask T)
+        let need = needOf way in let v = verdict need mask T (length lent) (length bytes) room (length s) in
+        (r ≡ workBy need v k mask T)
         × (now (newcells .exit) ≡ leftBy v lent (reduced (weightBy mask) k T .cells))
         × (now (newmarks .exit) ≡ leftBy v bytes (reduced (weightBy mask) k T .marks))
-        × (now (scratch .exit) ≡ workedBy v k mask T s)
+        × Worked need v k mask T s (now (scratch .exit))
         × (v ≡ Fine → Valid T)) ⌝ }
 {
     match check(
+        way,
         mask,
         rows,
         events,
@@ -113,9 +122,12 @@ pub fn work(
         rules::Verdict::Refused(number, place) => Done {
             answer: Answer::Refused(number, place),
             rows: 0,
+            used: 0,
         },
         rules::Verdict::Fine => {
-            folding::fold_rows(offset, mask, rows, events, start, cells, marks, scratch);
+            ways::fold_rows(
+                way, offset, mask, rows, events, start, cells, marks, scratch,
+            );
             let left = renumbering::renumber(
                 rows,
                 events,
@@ -129,20 +141,22 @@ pub fn work(
             Done {
                 answer: Answer::Reduced(left),
                 rows: rows as u16,
+                used: ways::needed(way, rows as u16),
             }
         }
     }
 }
 
-// Clears the scratch for a table of so many rows.
-pub fn finish(scratch: &mut [u16], rows: u16)
-    ensures { λ _. ⌜ now (scratch .exit) ≡ cleared (now (scratch .entry)) 0 (needed rows) ⌝ }
+// Clears the scratch cells that were used.
+pub fn finish(scratch: &mut [u16], used: usize)
+    ensures { λ _. ⌜ now (scratch .exit) ≡ cleared (now (scratch .entry)) 0 used ⌝ }
 {
-    scratch::clear(scratch, 0, scratch::needed(rows));
+    scratch::clear(scratch, 0, used);
 }
 
-// Shortens a table without records: callers lend no structs.
+// Shortens a table without records, on the scratch of either way: callers lend no structs.
 pub fn reduce_table(
+    way: Way,
     offset: rules::Offset,
     mask: u32,
     rows: usize,
@@ -156,10 +170,11 @@ pub fn reduce_table(
 ) -> Answer
     ensures { λ r. ⌜ (let T = tableOf rows events start (now (cells .entry)) (now (marks .entry)) in
         let lent = now (newcells .entry) in let bytes = now (newmarks .entry) in let s = now (scratch .entry) in
-        let v = verdict mask T (length lent) (length bytes) rows (length s) in
-        Promise v (offsetOf offset) mask T lent bytes s r (now (newcells .exit)) (now (newmarks .exit)) (now (scratch .exit))) ⌝ }
+        let need = needOf way in let v = verdict need mask T (length lent) (length bytes) rows (length s) in
+        Promise need v (offsetOf offset) mask T lent bytes s r (now (newcells .exit)) (now (newmarks .exit)) (now (scratch .exit))) ⌝ }
 {
     let w = work(
+        way,
         offset,
         mask,
         rows,
@@ -172,6 +187,6 @@ pub fn reduce_table(
         scratch,
         rows,
     );
-    finish(scratch, w.rows);
+    finish(scratch, w.used);
     w.answer
 }

@@ -126,3 +126,9 @@ module _ (T : Table) (s cells marks : List ℕ) where
   pub all-room : works ≡ true → T .rows * T .events ≤ length cells → markBytes (T .rows) ≤ length marks → roomy T s cells marks ≡ true
   unfolding roomy
   all-room e f g = rw (e, le-leb (T .rows * T .events) (length cells) f, le-leb (markBytes (T .rows)) (length marks) g)
+
+  -- So the call tells the table that is left.
+  pub room-told : roomy T s cells marks ≡ true → {r : ℕ} {t c m : List ℕ} → r ≡ newRows T s cells marks → NewScratch T s cells marks t → c ≡ newCells T s cells marks
+      → m ≡ newMarks T s cells marks → (r ≡ left T s .rows) × Numbered T s t × (c ≡ over cells 0 (left T s .cells)) × (m ≡ over marks 0 (left T s .marks))
+  unfolding newRows newCells newMarks
+  room-told e hr ht hc hm = (hr ∙ rw e, ht .numbered e, hc ∙ rw e, hm ∙ rw e)

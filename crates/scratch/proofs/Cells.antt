@@ -10,8 +10,7 @@ use lib.ListN.{length, getD, take, drop, set, replicate, length-replicate, getD-
 use lib.Seq.{ext-getD}
 use Rattle.tables.specs.Lists.{over}
 use Rattle.tables.proofs.Over.{over-length, over-set, over-over, over-before, over-inside, over-behind, take-before-over, drop-over}
-use Rattle.scratch.specs.Scratch.{triangle, pairFrom, pairAt, needed, scratchCells, cleared}
-use Rattle.scratch.proofs.Triangle.{needed-value}
+use Rattle.scratch.specs.Scratch.{triangle, pairFrom, pairAt, cleared}
 
 -- ---- two rows, each row's first cell being `from` of it
 module _ (from : ℕ → ℕ) (s : List ℕ) (q p : ℕ) where
@@ -113,20 +112,18 @@ clear-front s count h =
     let e : count - 0 ≡ count = omega arith in
     rw (le-ltb (length s) count h, e)
 
--- Once s has been worked in (t), clearing the cells for n rows leaves s but for the zeros in front.
-pub clear-work : (n : ℕ) (s t : List ℕ) → needed n ≤ length s → length t ≡ length s → ((i : ℕ) → needed n ≤ i → getD t i 0 ≡ getD s i 0)
-    → cleared t 0 (needed n) ≡ over s 0 (replicate (scratchCells n) 0)
-clear-work n s t room size beyond =
-    let z : List ℕ = replicate (needed n) 0 in
-    let zl : length z ≡ needed n = length-replicate (needed n) 0 in
+-- Once s has been worked in (t), clearing the cells in front leaves s but for the zeros there.
+pub clear-work : (count : ℕ) (s t : List ℕ) → count ≤ length s → length t ≡ length s → ((i : ℕ) → count ≤ i → getD t i 0 ≡ getD s i 0) → cleared t 0 count ≡ over s 0 (replicate count 0)
+clear-work count s t room size beyond =
+    let z : List ℕ = replicate count 0 in
+    let zl : length z ≡ count = length-replicate count 0 in
     let ft : 0 + length z ≤ length t = omega arith in
     let fs : 0 + length z ≤ length s = omega arith in
-    clear-front t (needed n) (omega arith)
-    ∙ ext-getD 0 (over t 0 z) (over s 0 z) (over-length t 0 z ft ∙ size ∙ sym (over-length s 0 z fs)) (λ i h. elim (decLt i (needed n)) [
+    clear-front t count (omega arith)
+    ∙ ext-getD 0 (over t 0 z) (over s 0 z) (over-length t 0 z ft ∙ size ∙ sym (over-length s 0 z fs)) (λ i h. elim (decLt i count) [
       | yes l ↦ inside i z t ft (omega arith) ∙ sym (inside i z s fs (omega arith))
       | no l ↦ over-behind t 0 z ft i 0 (omega arith) ∙ beyond i (omega arith) ∙ sym (over-behind s 0 z fs i 0 (omega arith))
     ])
-    ∙ ap (λ (m : ℕ). over s 0 (replicate m 0)) (sym (needed-value n))
   where
     inside : (i : ℕ) (z d : List ℕ) → 0 + length z ≤ length d → i < length z → getD (over d 0 z) i 0 ≡ getD z i 0
     inside i z d f h = ap (λ (j : ℕ). getD (over d 0 z) j 0) (sym (zero-add i)) ∙ over-inside d 0 z f i 0 h

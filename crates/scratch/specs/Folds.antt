@@ -10,7 +10,7 @@ use Rattle.tables.specs.Table.{Offset}
 use Rattle.tables.specs.Reduction.{fold}
 use Rattle.scratch.specs.Scratch.{lenCell}
 
--- From cell `at` on stand the leads of the rows of M; two regions further, where a region has a cell for each row, the rows into which the reached ones fold.
-pub record Folds (E : Events) (M : Machine) (k : Offset) (at : ℕ) (s : List ℕ) : Type 0 where
-  pub leads : (q : ℕ) → q < M .rows → getD s (at + q) 0 ≡ lenCell (lead E M q)
-  pub folds : (q : ℕ) → q < M .rows → reached E M q ≡ true → getD s (at + 2 * M .rows + q) 0 ≡ fold E M k q
+-- In front stand the leads of the rows of M; two regions further, where a region has a cell for each row, the rows into which the reached ones fold.
+pub record Folds (E : Events) (M : Machine) (k : Offset) (s : List ℕ) : Type 0 where
+  pub leads : (q : ℕ) → q < M .rows → getD s q 0 ≡ lenCell (lead E M q)
+  pub folds : (q : ℕ) → q < M .rows → reached E M q ≡ true → getD s (2 * M .rows + q) 0 ≡ fold E M k q

@@ -11,14 +11,14 @@ use lib.ListN.{length}
 use Rattle.automata.specs.Runs.{Events, Machine, Run, size, after, shows, AgreeFrom, Len, IsDistance, IsDepth, Unreached}
 use Rattle.tables.specs.Lengths.{distance, depth, reached}
 use Rattle.automata.proofs.Lists.{Mem}
-use Rattle.automata.proofs.Runs.{Reach, near-up}
-use Rattle.tables.proofs.Lengths.{Below, distance-is, finite-distance, depth-is, finite-depth, reached-is, unreached-is}
+use Rattle.automata.proofs.Runs.{Reach, stay, event, _then_, less, way-in, near-up}
+use Rattle.tables.proofs.Lengths.{Below, distance-is, finite-distance, depth-is, finite-depth, reached-is, reached-found, unreached-is}
 use Rattle.tables.specs.Table.{Table, Offset, offset, none, Valid, Agrees, Fewest, machine, eventsOf}
 use Rattle.tables.specs.Lists.{some}
 use Rattle.tables.specs.Reduction.{kept, fold, numbering, renumbered, reduced, records}
 use Rattle.tables.proofs.Lists.{tabulate-length}
 use Rattle.tables.proofs.Marks.{mark-small}
-use Rattle.tables.proofs.Folds.{kept-own}
+use Rattle.tables.proofs.Folds.{folding, kept-own}
 use Rattle.tables.proofs.Reduced.{sound-of, kept-in, count-kept, reduced-valid, reduced-agrees, reduced-fewest}
 use Rattle.tables.proofs.NoOffset.{kept-none, fold-none, reduced-none, records-none}
 use Rattle.tables.proofs.Canonical.{reduced-same}
@@ -115,6 +115,29 @@ module _ (weight : ℕ → ℕ) (light : (a : ℕ) → weight a ≤ 1) (T : Tabl
       let k : ℕ = 2 * T .rows in
       ap (some (eqb q)) (kept-none E M k (v .some-row) (omega arith)) ∙ kept-own (sound-of weight T T refl v) (record { at-most = light }) k q h u
       ∙ ap (λ (f : ℕ → ℕ). eqb (f q) q) (sym (fold-none E M k (v .some-row) (omega arith)))
+
+  -- The start is a reached row; a reached row leads to reached rows, and folds into one.
+  abbrev pub Reached : ℕ → Type 0
+  Reached q = (q < T .rows) × (reached E M q ≡ true)
+
+  found : (q : ℕ) → Reach E M q 0 → Reached q
+  found q r = let h = way-in (sound-of weight T T refl v) (v .start-in) r in (h, reached-found (sound-of weight T T refl v) (record { at-most = light }) q h r)
+
+  reach : (q : ℕ) → Reached q → Reach E M q 0
+  reach q h = reached-is (sound-of weight T T refl v) (record { at-most = light }) q (h .0) (h .1)
+
+  pub start-reached : Reached (T .start)
+  start-reached = found (T .start) (stay (T .start))
+
+  pub target-reached : (q a : ℕ) → Reached q → a < T .events → Reached (M .target q a)
+  target-reached q a h ha = found (M .target q a) (less (omega arith) (reach q h then event q a ha))
+
+  folds-in : (k q : ℕ) → Reached q → Reached (fold E M (offset k) q)
+  folds-in k q h = let f = folding (sound-of weight T T refl v) (record { at-most = light }) k in found _ (f .kept-reach _ (f .fold-kept q (reach q h)))
+
+  pub fold-reached : (k : Offset) (q : ℕ) → Reached q → Reached (fold E M k q)
+  fold-reached (offset k) q h = folds-in k q h
+  fold-reached none q h = subst (λ (f : ℕ → ℕ). Reached (f q)) (sym (fold-none E M (2 * T .rows) (v .some-row) (omega arith))) (folds-in (2 * T .rows) q h)
 
   pub start-zero : (k : Offset) → reduced weight k T .start ≡ 0
   unfolding reduced renumbered
