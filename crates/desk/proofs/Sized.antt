@@ -22,6 +22,7 @@ use Rattle.weights.specs.Weights.{spareBit, counted}
 use Rattle.weights.proofs.Counts.{counted-all}
 use Rattle.rules.specs.Rules.{maskRule, leftBy}
 use Rattle.rules.proofs.Checks.{unbroken}
+use Rattle.scratch.specs.Scratch.{scratchCells}
 use Rattle.reduction.specs.Reduce.{verdict, answerBy, Promise}
 use Rattle.reduction.proofs.Fakes.{by-mask as judged-by-mask}
 use Rattle.image_text.specs.ImageText.{textBy, maskedText}
@@ -32,9 +33,9 @@ use Rattle.desk.specs.Printed.{reductionText}
 use Rattle.listing.specs.Listing.{targetWord, markWords, rowLine, recordLine, blank, listing}
 
 -- The buffers are long enough: the mask alone can break a rule.
-pub by-mask : (mask : ℕ) (T : Table) → Valid T → T .rows ≤ 128 → verdict mask T 4096 16 1024 8640 ≡ maskRule mask (T .events)
+pub by-mask : (mask : ℕ) (T : Table) → Valid T → T .rows ≤ 128 → verdict scratchCells mask T 4096 16 1024 8640 ≡ maskRule mask (T .events)
 by-mask mask T v few =
-    judged-by-mask mask T v 4096 16 1024 8640 (mul-le-mul few (v .events-fit)) (omega arith) (omega arith) (omega (arith, needed-value (T .rows), triangle-le (T .rows) 128 few, triangle-square 128))
+    judged-by-mask scratchCells mask T v 4096 16 1024 8640 (mul-le-mul few (v .events-fit)) (omega arith) (omega arith) (omega (arith, needed-value (T .rows), triangle-le (T .rows) 128 few, triangle-square 128))
 
 -- ---- texts of equal parts are equal
 
@@ -94,8 +95,8 @@ module _ (k : Offset) (mask : ℕ) (T : Table) (v : Valid T) (few : T .rows ≤ 
 
   -- What the reducer's promise says of these buffers: the answer, and the text that is read off them.
   module _ (fits : mask < 2 ^ 32) (cells marks scratch : List ℕ) (hc : length cells ≡ 4096) (hm : length marks ≡ 16) (hs : length scratch ≡ 8640) {a : Answer} {cells′ marks′ scratch′ : List ℕ}
-      (p : Promise (verdict mask T (length cells) (length marks) 1024 (length scratch)) k mask T cells marks scratch a cells′ marks′ scratch′) where
-    judged-so : verdict mask T (length cells) (length marks) 1024 (length scratch) ≡ maskRule mask (T .events)
+      (p : Promise scratchCells (verdict scratchCells mask T (length cells) (length marks) 1024 (length scratch)) k mask T cells marks scratch a cells′ marks′ scratch′) where
+    judged-so : verdict scratchCells mask T (length cells) (length marks) 1024 (length scratch) ≡ maskRule mask (T .events)
     judged-so = rw (hc, hm, hs) (by-mask mask T v few)
 
     answered : a ≡ answerBy (maskRule mask (T .events)) (U .rows)
@@ -118,13 +119,13 @@ module _ (k : Offset) (mask : ℕ) (T : Table) (v : Valid T) (few : T .rows ≤ 
           pick Fine e = (refl, sym (counted-rows e))
           pick (Refused n q) e = let z : _≡_ {A = ℕ} 0 1 = cc in absurd (omega arith)
 
-      fine : verdict mask T (length cells) (length marks) 1024 (length scratch) ≡ Fine
+      fine : verdict scratchCells mask T (length cells) (length marks) 1024 (length scratch) ≡ Fine
       fine = judged-so ∙ kept .0
 
       all-counted : counted mask 32 ≡ counted mask (T .events)
       all-counted = counted-all mask (T .events) (v .events-fit) fits (unbroken 16 (spareBit mask (T .events)) 0 (kept .0))
 
-      pub text-is : (bl l : List Record) → l ≡ recordsBy (verdict mask T (length cells) (length marks) 1024 (length scratch)) bl (records (weightBy mask) k T)
+      pub text-is : (bl l : List Record) → l ≡ recordsBy (verdict scratchCells mask T (length cells) (length marks) 1024 (length scratch)) bl (records (weightBy mask) k T)
           → {count : ℕ} → count ≡ counted mask 32 → listing left (T .events) count cells′ marks′ (T .rows) l ≡ maskedText mask (reductionText k mask) T
       text-is bl l hl {count} hn =
           let c : cells′ ≡ over cells 0 (U .cells) = p .cells-after ∙ ap (λ (u : Verdict). leftBy u cells (U .cells)) fine in

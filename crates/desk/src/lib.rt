@@ -53,6 +53,7 @@ fn write_reduction(
     let mut newmarks = [0u8; 16];
     let mut scratch = [0u16; 8640];
     let done = reducer::reduce_recorded(
+        ways::Way::First,
         offset,
         mask,
         rows,

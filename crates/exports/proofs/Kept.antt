@@ -10,11 +10,11 @@ use Rattle.reduction.specs.Reduce.{answerBy, Promise}
 use Rattle.load.specs.Load.{Promise as PromiseOfLoad}
 
 -- The reducer's, with the offset as it was given.
-pub reduce-kept : (v : Verdict) (k j : Offset) (mask : ℕ) (T : Table) (c m s : List ℕ) (r : Answer) (c′ m′ s′ : List ℕ) → k ≡ j → Promise v k mask T c m s r c′ m′ s′
-    → let a = answerBy v (reduced (weightBy mask) j T .rows) in (r ≡ a) × Promise v j mask T c m s a c′ m′ s′
-reduce-kept v k j mask T c m s r c′ m′ s′ e p =
-    let q : Promise v j mask T c m s r c′ m′ s′ = subst (λ (o : Offset). Promise v o mask T c m s r c′ m′ s′) e p in
-    (q .answers, subst (λ (a : Answer). Promise v j mask T c m s a c′ m′ s′) (q .answers) q)
+pub reduce-kept : (need : ℕ → ℕ) (v : Verdict) (k j : Offset) (mask : ℕ) (T : Table) (c m s : List ℕ) (r : Answer) (c′ m′ s′ : List ℕ) → k ≡ j → Promise need v k mask T c m s r c′ m′ s′
+    → let a = answerBy v (reduced (weightBy mask) j T .rows) in (r ≡ a) × Promise need v j mask T c m s a c′ m′ s′
+reduce-kept need v k j mask T c m s r c′ m′ s′ e p =
+    let q : Promise need v j mask T c m s r c′ m′ s′ = subst (λ (o : Offset). Promise need v o mask T c m s r c′ m′ s′) e p in
+    (q .answers, subst (λ (a : Answer). Promise need v j mask T c m s a c′ m′ s′) (q .answers) q)
 
 -- The generator's.
 pub load-kept : (v : Verdict) (T : Table) (c m : List ℕ) (r : Verdict) (c′ m′ : List ℕ) → PromiseOfLoad v T c m r c′ m′ → (r ≡ v) × PromiseOfLoad v T c m v c′ m′

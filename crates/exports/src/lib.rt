@@ -6,6 +6,7 @@ ghost use lib.ListN.{length};
 ghost use Rattle.tables.specs.Table.{weightBy};
 ghost use Rattle.tables.specs.Reduction.{reduced};
 ghost use Rattle.rules.specs.Rules.{winch, tableOf};
+ghost use Rattle.scratch.specs.Scratch.{scratchCells, fewCells};
 ghost use Rattle.reduction.specs.Reduce.{verdict, answerBy, Promise};
 ghost use Rattle.load.specs.Load.{load, verdict as verdictOfLoad, Promise as PromiseOfLoad};
 ghost use Rattle.images.specs.declared.Form.the-variants.{Radio};
@@ -114,7 +115,7 @@ pub extern "C" fn gelfost_read_pack(
     answers::put_unpacked(answer, found);
 }
 
-// Reduces a table, as `reduction::reduce_table` does.
+// Reduces a table, as `reduction::reduce_table` does the first way.
 #[no_mangle]
 pub extern "C" fn gelfost_reduce(
     offset: u32,
@@ -131,11 +132,49 @@ pub extern "C" fn gelfost_reduce(
 )
     ensures { λ r. ⌜ (let T = tableOf rows events start (now (cells .entry)) (now (marks .entry)) in let k = offsetIn offset in
         let c = now (newcells .entry) in let m = now (newmarks .entry) in let s = now (scratch .entry) in
-        let v = verdict mask T (length c) (length m) rows (length s) in let a = answerBy v (reduced (weightBy mask) k T .rows) in
+        let need = scratchCells in let v = verdict need mask T (length c) (length m) rows (length s) in let a = answerBy v (reduced (weightBy mask) k T .rows) in
         (now (answer .exit) ≡ ofAnswer a)
-        × Promise v k mask T c m s a (now (newcells .exit)) (now (newmarks .exit)) (now (scratch .exit))) ⌝ }
+        × Promise need v k mask T c m s a (now (newcells .exit)) (now (newmarks .exit)) (now (scratch .exit))) ⌝ }
 {
     let found = reduction::reduce_table(
+        ways::Way::First,
+        answers::offset_of(offset),
+        mask,
+        rows,
+        events,
+        start,
+        cells,
+        marks,
+        newcells,
+        newmarks,
+        scratch,
+    );
+    answers::put_answer(answer, found);
+}
+
+// Reduces a table, as `reduction::reduce_table` does the second way.
+#[no_mangle]
+pub extern "C" fn gelfost_reduce_few(
+    offset: u32,
+    mask: u32,
+    rows: usize,
+    events: usize,
+    start: usize,
+    cells: &[u16],
+    marks: &[u8],
+    newcells: &mut [u16],
+    newmarks: &mut [u8],
+    scratch: &mut [u16],
+    answer: &mut [usize; 4],
+)
+    ensures { λ r. ⌜ (let T = tableOf rows events start (now (cells .entry)) (now (marks .entry)) in let k = offsetIn offset in
+        let c = now (newcells .entry) in let m = now (newmarks .entry) in let s = now (scratch .entry) in
+        let need = fewCells in let v = verdict need mask T (length c) (length m) rows (length s) in let a = answerBy v (reduced (weightBy mask) k T .rows) in
+        (now (answer .exit) ≡ ofAnswer a)
+        × Promise need v k mask T c m s a (now (newcells .exit)) (now (newmarks .exit)) (now (scratch .exit))) ⌝ }
+{
+    let found = reduction::reduce_table(
+        ways::Way::Second,
         answers::offset_of(offset),
         mask,
         rows,

@@ -12,7 +12,6 @@ use Rattle.rules.specs.Rules.{andThen, judged, winch, roomRule, maskRule, maske
 use Rattle.rules.specs.declared.Verdict.{Verdict}
 use Rattle.rules.specs.declared.Verdict.the-variants.{Fine, Refused}
 use Rattle.rules.proofs.First.{room-broken, room-kept, valid-then}
-use Rattle.scratch.specs.Scratch.{scratchCells}
 use Rattle.reduction.specs.Reduce.{roomChecks, verdict}
 use Rattle.reduction.proofs.Fakes.{accepts}
 use Rattle.load.specs.Load.{load}
@@ -28,9 +27,9 @@ one-room needed given v h = elim (decLt given needed) [
   | no g ↦ rw (room-kept needed given (omega arith)) h
 ]
 
-all-rooms : (rows events cells marks records scratch : ℕ) → AtMostSeven (judged (roomChecks rows events cells marks records scratch))
-all-rooms rows events cells marks records scratch =
-    one-room (rows * events) cells _ (one-room (markBytes rows) marks _ (one-room rows records _ (one-room (scratchCells rows) scratch Fine (inl refl))))
+all-rooms : (need : ℕ → ℕ) (rows events cells marks records scratch : ℕ) → AtMostSeven (judged (roomChecks need rows events cells marks records scratch))
+all-rooms need rows events cells marks records scratch =
+    one-room (rows * events) cells _ (one-room (markBytes rows) marks _ (one-room rows records _ (one-room (need rows) scratch Fine (inl refl))))
 
 -- A table that was drawn, and a mask below its events.
 module _ (seed rows events mask : ℕ) (some-row : 1 ≤ rows) (rows-fit : rows ≤ 1024) (some-event : 1 ≤ events) (events-fit : events ≤ 32) (below : spareBit mask events ≡ false) where
@@ -39,14 +38,14 @@ module _ (seed rows events mask : ℕ) (some-row : 1 ≤ rows) (rows-fit : rows 
   unfolding load
   load-passes more = valid-then (load seed rows events) (load-valid seed rows events some-row rows-fit some-event events-fit) (maskRule mask events ∷ more) ∙ rw below
 
-  module _ (cells marks records scratch : ℕ) where
-    -- The reducer refuses it by no rule but 7,
-    pub load-reducible : AtMostSeven (verdict mask (load seed rows events) cells marks records scratch)
+  module _ (need : ℕ → ℕ) (cells marks records scratch : ℕ) where
+    -- The reducer refuses it by no rule but 7, however much scratch a call needs,
+    pub load-reducible : AtMostSeven (verdict need mask (load seed rows events) cells marks records scratch)
     unfolding load verdict
-    load-reducible = rw (load-passes (roomChecks rows events cells marks records scratch)) (all-rooms rows events cells marks records scratch)
+    load-reducible = rw (load-passes (roomChecks need rows events cells marks records scratch)) (all-rooms need rows events cells marks records scratch)
 
     -- and by none where the buffers have the named lengths.
-    pub load-accepted : rows * events ≤ cells → markBytes rows ≤ marks → rows ≤ records → scratchCells rows ≤ scratch
-        → verdict mask (load seed rows events) cells marks records scratch ≡ Fine
+    pub load-accepted : rows * events ≤ cells → markBytes rows ≤ marks → rows ≤ records → need rows ≤ scratch
+        → verdict need mask (load seed rows events) cells marks records scratch ≡ Fine
     unfolding load
-    load-accepted c m r s = accepts mask (load seed rows events) (load-valid seed rows events some-row rows-fit some-event events-fit) cells marks records scratch c m r s below
+    load-accepted c m r s = accepts need mask (load seed rows events) (load-valid seed rows events some-row rows-fit some-event events-fit) cells marks records scratch c m r s below

@@ -52,6 +52,7 @@ fn reduce(name: &[u8], offset: Offset, cells: &[u16], marks: &[u8]) {
     print_answer(
         name,
         reduction::reduce_table(
+            ways::Way::First,
             offset,
             ALL,
             1024,

@@ -4,13 +4,16 @@ ghost use lib.ListN.{length};
 ghost use Rattle.rules.specs.Rules.{tableOf, offsetOf};
 ghost use Rattle.tables.specs.Table.{weightBy};
 ghost use Rattle.tables.specs.Reduction.{records as recordsOf};
+ghost use Rattle.ways.specs.Ways.{needOf};
 ghost use Rattle.reduction.specs.Reduce.{verdict, Promise};
 ghost use Rattle.reducer.specs.Recorded.{recordsBy};
 use records::Record;
 use reduction::Answer;
+use ways::Way;
 
-// Shortens a table, where a mask says which events count: the new one is written into the lent cells and mark bytes, a record of each given row into the lent records; the scratch is cleared.
+// Shortens a table on the scratch of either way, where a mask says which events count: the new one is written into the lent cells and mark bytes, a record of each given row into the lent records; the scratch is cleared.
 pub fn reduce(
+    way: Way,
     offset: rules::Offset,
     mask: u32,
     rows: usize,
@@ -25,11 +28,12 @@ pub fn reduce(
 ) -> Answer
     ensures { λ r. ⌜ (let T = tableOf rows events start (now (cells .entry)) (now (marks .entry)) in let k = offsetOf offset in
         let lent = now (newcells .entry) in let bytes = now (newmarks .entry) in let before = now (records .entry) in let s = now (scratch .entry) in
-        let v = verdict mask T (length lent) (length bytes) (length before) (length s) in
-        Promise v k mask T lent bytes s r (now (newcells .exit)) (now (newmarks .exit)) (now (scratch .exit))
+        let need = needOf way in let v = verdict need mask T (length lent) (length bytes) (length before) (length s) in
+        Promise need v k mask T lent bytes s r (now (newcells .exit)) (now (newmarks .exit)) (now (scratch .exit))
         × (now (records .exit) ≡ recordsBy v before (recordsOf (weightBy mask) k T))) ⌝ }
 {
     let w = reduction::work(
+        way,
         offset,
         mask,
         rows,
@@ -42,9 +46,8 @@ pub fn reduce(
         scratch,
         records.len(),
     );
-    let n = w.rows;
-    records::write_records(records, scratch, n);
-    reduction::finish(scratch, n);
+    records::write_records(records, scratch, w.rows);
+    reduction::finish(scratch, w.used);
     w.answer
 }
 
@@ -56,6 +59,7 @@ pub struct Outcome {
 
 // The same with an array of records by value: it is lent here, and callers need not lend one.
 pub fn reduce_recorded(
+    way: Way,
     offset: rules::Offset,
     mask: u32,
     rows: usize,
@@ -70,12 +74,13 @@ pub fn reduce_recorded(
 ) -> Outcome
     ensures { λ r. ⌜ (let T = tableOf rows events start (now (cells .entry)) (now (marks .entry)) in let k = offsetOf offset in
         let lent = now (newcells .entry) in let bytes = now (newmarks .entry) in let s = now (scratch .entry) in
-        let v = verdict mask T (length lent) (length bytes) 1024 (length s) in
-        Promise v k mask T lent bytes s (r .answer) (now (newcells .exit)) (now (newmarks .exit)) (now (scratch .exit))
+        let need = needOf way in let v = verdict need mask T (length lent) (length bytes) 1024 (length s) in
+        Promise need v k mask T lent bytes s (r .answer) (now (newcells .exit)) (now (newmarks .exit)) (now (scratch .exit))
         × (r .records ≡ recordsBy v blank (recordsOf (weightBy mask) k T))) ⌝ }
 {
     let mut records = blank;
     let answer = reduce(
+        way,
         offset,
         mask,
         rows,

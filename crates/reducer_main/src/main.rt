@@ -93,6 +93,7 @@ fn show_case(
     let mut newmarks = [99u8; 8];
     let mut scratch = [9999u16; 64];
     let done = reducer::reduce_recorded(
+        ways::Way::First,
         offset,
         mask,
         wide(rows),
@@ -144,6 +145,7 @@ fn show_edge(
     let mut newcells = [9999u16; 1024];
     let mut newmarks = [99u8; 128];
     let done = reducer::reduce_recorded(
+        ways::Way::First,
         Offset::Number(0),
         mask,
         wide(rows),
