@@ -1,0 +1,369 @@
+// The classes of a level among the rows at hand: from one class by splits that keep like rows together, until no row is unlike the first of its class.
+ghost use mathlib.Core.Path.{_≡_};
+ghost use mathlib.Core.Bool.{false};
+ghost use mathlib.Core.List.{[]};
+ghost use mathlib.Core.Logic.{_⊎_};
+ghost use Prim.Native.Nat.{ℕ, _+_, _*_, _≤_, _<_};
+ghost use lib.Dec.{eqb};
+ghost use lib.ListN.{length, getD};
+ghost use Rattle.tables.specs.Table.{markOf};
+ghost use Rattle.scratch.specs.Tests.{Tested};
+ghost use Rattle.splitting.specs.Places.{front, nxtAt, keyAt, jumpAt, Filled, Span, Canon, Room, Ready};
+ghost use Rattle.classes.specs.Values.{rowIn, targetIn, placeIn, outerBy, valuesBy, value, Alike, Sizes, Reads, Given};
+ghost use Rattle.classes.specs.Steps.{First, Fault, Begun, Refined, Doubled, Leaps, Settled};
+
+// The place that stands for the target of row q at an event.
+fn place_of(n: usize, m: usize, cells: &[u16], scratch: &[u16], q: usize, a: usize) -> usize
+    requires { ⌜ (q * m + a < length (now cells)) × (targetIn m (now cells) q a < n) × (4 * n ≤ length (now scratch)) ⌝ }
+    ensures { λ r. ⌜ r ≡ placeIn n m (now (cells .entry)) (front n (now (scratch .entry))) q a ⌝ }
+{
+    let target = rules::wide(cells[q * m + a]);
+    rules::wide(scratch[2 * n + target])
+}
+
+// Whether an event is an outer one.
+fn is_outer(top: bool, mask: u32, a: usize) -> bool
+    requires { ⌜ a < 32 ⌝ }
+    ensures { λ r. ⌜ r ≡ outerBy top mask a ⌝ }
+{
+    if top {
+        return false;
+    }
+    weights::weight(mask, a as u16) == 1
+}
+
+// Whether an event says the same of rows q and p.
+fn same_at(
+    top: bool,
+    mask: u32,
+    n: usize,
+    m: usize,
+    to: usize,
+    cells: &[u16],
+    scratch: &[u16],
+    q: usize,
+    p: usize,
+    a: usize,
+) -> bool
+    requires { ⌜ (let x = now cells in let s = now scratch in Sizes n m to x s × Reads n m to x s q × Reads n m to x s p × (a < m)) ⌝ }
+    ensures { λ r. ⌜ (let s = now (scratch .entry) in let W = valuesBy top mask n m to (now (cells .entry)) [] s in r ≡ eqb (value W (nxtAt n s) q a) (value W (nxtAt n s) p a)) ⌝ }
+{
+    let x = place_of(n, m, cells, scratch, q, a);
+    let y = place_of(n, m, cells, scratch, p, a);
+    if is_outer(top, mask, a) {
+        return x == y;
+    }
+    scratch[4 * n + x] == scratch[4 * n + y]
+}
+
+// The first event at which rows q and p differ; m if their marks do; m + 1 if nothing does.
+fn first_event(
+    top: bool,
+    mask: u32,
+    n: usize,
+    m: usize,
+    to: usize,
+    cells: &[u16],
+    marks: &[u8],
+    scratch: &[u16],
+    q: usize,
+    p: usize,
+) -> usize
+    requires { ⌜ (let x = now cells in let s = now scratch in Sizes n m to x s × Reads n m to x s q × Reads n m to x s p) ⌝ }
+    ensures { λ r. ⌜ (let s = now (scratch .entry) in let W = valuesBy top mask n m to (now (cells .entry)) (now (marks .entry)) s in First W (nxtAt n s) q p r) ⌝ }
+{
+    if top {
+        if marks::mark(marks, q) != marks::mark(marks, p) {
+            return m;
+        }
+    }
+    let mut a = 0;
+    while a < m {
+        if !same_at(top, mask, n, m, to, cells, scratch, q, p, a) {
+            return a;
+        }
+        a += 1;
+    }
+    m + 1
+}
+
+// The same of a place and its leader.
+fn fault_at(
+    top: bool,
+    mask: u32,
+    n: usize,
+    m: usize,
+    to: usize,
+    cells: &[u16],
+    marks: &[u8],
+    scratch: &[u16],
+    i: usize,
+) -> usize
+    requires { ⌜ (let s = now scratch in let W = valuesBy top mask n m to (now cells) (now marks) s in Given n W (now cells) s × Canon to (nxtAt n s) × (i < to)) ⌝ }
+    ensures { λ r. ⌜ (let s = now (scratch .entry) in let W = valuesBy top mask n m to (now (cells .entry)) (now (marks .entry)) s in First W (nxtAt n s) (W .row i) (W .row (nxtAt n s i)) r) ⌝ }
+{
+    let l = rules::wide(scratch[4 * n + i]);
+    if l == i {
+        return m + 1;
+    }
+    first_event(
+        top,
+        mask,
+        n,
+        m,
+        to,
+        cells,
+        marks,
+        scratch,
+        rules::wide(scratch[3 * n + i]),
+        rules::wide(scratch[3 * n + l]),
+    )
+}
+
+// The first place that is unlike its leader; `to` if there is none.
+fn fault(
+    top: bool,
+    mask: u32,
+    n: usize,
+    m: usize,
+    to: usize,
+    cells: &[u16],
+    marks: &[u8],
+    scratch: &[u16],
+) -> usize
+    requires { ⌜ (let s = now scratch in let W = valuesBy top mask n m to (now cells) (now marks) s in Given n W (now cells) s × Canon to (nxtAt n s)) ⌝ }
+    ensures { λ r. ⌜ (let s = now (scratch .entry) in let W = valuesBy top mask n m to (now (cells .entry)) (now (marks .entry)) s in Fault W (nxtAt n s) r) ⌝ }
+{
+    let mut i = 0;
+    while i < to {
+        if fault_at(top, mask, n, m, to, cells, marks, scratch, i) <= m {
+            return i;
+        }
+        i += 1;
+    }
+    to
+}
+
+// Keys: the marks.
+fn by_mark(scratch: &mut [u16], n: usize, to: usize, marks: &[u8])
+    requires { ⌜ Span n (6 * n) to (now scratch) × (to ≤ n) ⌝ }
+    ensures { λ r. ⌜ (let s = now (scratch .entry) in Filled n (6 * n) to (λ i. markOf (now (marks .entry)) (rowIn n (front n s) i)) s (now (scratch .exit))) ⌝ }
+{
+    let mut i = 0;
+    while i < to {
+        let row = rules::wide(scratch[3 * n + i]);
+        scratch[6 * n + i] = marks::mark(marks, row) as u16;
+        i += 1;
+    }
+}
+
+// Keys or jumps, from cell `at` on: the places that stand for the targets at an event.
+fn by_event(n: usize, m: usize, to: usize, cells: &[u16], scratch: &mut [u16], a: usize, at: usize)
+    requires { ⌜ (let x = now cells in let s = now scratch in Sizes n m to x s × ((i : ℕ) → i < to → Reads n m to x s (rowIn n (front n s) i)) × Span n at to s × (a < m)) ⌝ }
+    ensures { λ r. ⌜ (let s = now (scratch .entry) in let b = front n s in Filled n at to (λ i. placeIn n m (now (cells .entry)) b (rowIn n b i) a) s (now (scratch .exit))) ⌝ }
+{
+    let mut i = 0;
+    while i < to {
+        let row = rules::wide(scratch[3 * n + i]);
+        scratch[at + i] = place_of(n, m, cells, scratch, row, a) as u16;
+        i += 1;
+    }
+}
+
+// Keys: what stands from cell `from` on, at the places to which the jumps lead.
+fn by_jump(scratch: &mut [u16], n: usize, to: usize, from: usize)
+    requires { ⌜ Span n (6 * n) to (now scratch) × ((from + to ≤ 6 * n) ⊎ (7 * n ≤ from)) × (from + to ≤ 12 * n) ⌝ }
+    requires { ⌜ (to ≤ n) × ((i : ℕ) → i < to → jumpAt n (now scratch) i < to) ⌝ }
+    ensures { λ r. ⌜ (let s = now (scratch .entry) in Filled n (6 * n) to (λ i. getD s (from + jumpAt n s i) 0) s (now (scratch .exit))) ⌝ }
+{
+    let mut i = 0;
+    while i < to {
+        scratch[6 * n + i] = scratch[from + rules::wide(scratch[7 * n + i])];
+        i += 1;
+    }
+}
+
+// Jumps: the keys.
+fn back(scratch: &mut [u16], n: usize, to: usize)
+    requires { ⌜ Span n (7 * n) to (now scratch) × (to ≤ n) ⌝ }
+    ensures { λ r. ⌜ (let s = now (scratch .entry) in Filled n (7 * n) to (keyAt n s) s (now (scratch .exit))) ⌝ }
+{
+    let mut i = 0;
+    while i < to {
+        scratch[7 * n + i] = scratch[6 * n + i];
+        i += 1;
+    }
+}
+
+// Makes the jump twice as far and splits by it; answers whether that made a leader.
+fn double(scratch: &mut [u16], n: usize, to: usize, size: usize) -> bool
+    requires { ⌜ Ready n to size (now scratch) × ((i : ℕ) → i < to → jumpAt n (now scratch) i < to) ⌝ }
+    ensures { λ r. ⌜ Doubled n to (now (scratch .entry)) (now (scratch .exit)) r ⌝ }
+{
+    by_jump(scratch, n, to, 7 * n);
+    back(scratch, n, to);
+    by_jump(scratch, n, to, 4 * n);
+    splitting::split(scratch, n, to, size)
+}
+
+// Splits by the jump, and by the jump twice, four times, .. as far, while that makes leaders. A long chain takes so few passes.
+fn leap(scratch: &mut [u16], n: usize, to: usize, size: usize)
+    requires { ⌜ Ready n to size (now scratch) × ((i : ℕ) → i < to → jumpAt n (now scratch) i < to) ⌝ }
+    ensures { λ r. ⌜ Leaps n to (now (scratch .entry)) (now (scratch .exit)) ⌝ }
+{
+    by_jump(scratch, n, to, 4 * n);
+    let mut more = splitting::split(scratch, n, to, size);
+    while more {
+        more = double(scratch, n, to, size);
+    }
+}
+
+// At a place that is unlike its leader: splits by that at which they differ.
+fn refine(
+    top: bool,
+    mask: u32,
+    n: usize,
+    m: usize,
+    to: usize,
+    cells: &[u16],
+    marks: &[u8],
+    scratch: &mut [u16],
+    size: usize,
+    i: usize,
+)
+    requires { ⌜ (let s = now scratch in let W = valuesBy top mask n m to (now cells) (now marks) s in Begun n W (now cells) s × Room n to size s × (i < to) × (Alike W (nxtAt n s) (W .row i) (W .row (nxtAt n s i)) → ⊥)) ⌝ }
+    ensures { λ r. ⌜ (let s = now (scratch .entry) in let W = valuesBy top mask n m to (now (cells .entry)) (now (marks .entry)) s in Refined n W s (now (scratch .exit))) ⌝ }
+{
+    let e = fault_at(top, mask, n, m, to, cells, marks, scratch, i);
+    if e >= m {
+        by_mark(scratch, n, to, marks);
+        splitting::split(scratch, n, to, size);
+        return;
+    }
+    if is_outer(top, mask, e) {
+        by_event(n, m, to, cells, scratch, e, 6 * n);
+        splitting::split(scratch, n, to, size);
+        return;
+    }
+    by_event(n, m, to, cells, scratch, e, 7 * n);
+    leap(scratch, n, to, size);
+}
+
+// Refines until no place is unlike its leader.
+fn mend(
+    top: bool,
+    mask: u32,
+    n: usize,
+    m: usize,
+    to: usize,
+    cells: &[u16],
+    marks: &[u8],
+    scratch: &mut [u16],
+    size: usize,
+)
+    requires { ⌜ (let s = now scratch in let W = valuesBy top mask n m to (now cells) (now marks) s in Begun n W (now cells) s × Room n to size s) ⌝ }
+    ensures { λ r. ⌜ (let s = now (scratch .entry) in let W = valuesBy top mask n m to (now (cells .entry)) (now (marks .entry)) s in Settled n W s (now (scratch .exit))) ⌝ }
+{
+    let mut i = fault(top, mask, n, m, to, cells, marks, scratch);
+    while i < to {
+        refine(top, mask, n, m, to, cells, marks, scratch, size, i);
+        i = fault(top, mask, n, m, to, cells, marks, scratch);
+    }
+}
+
+// The size of the table: a power of 2, twice the places if there is room.
+fn table_size(n: usize, to: usize) -> usize
+    requires { ⌜ (0 < n) × (n ≤ 1024) × (to ≤ n) ⌝ }
+    ensures { λ r. ⌜ (0 < r) × (r ≤ 3 * n) ⌝ }
+{
+    let mut size = 1;
+    while size < 2 * to {
+        if 3 * n < 2 * size {
+            return size;
+        }
+        size = 2 * size;
+    }
+    size
+}
+
+// Whether the numbers of rows, events and places, and the lent cells, fit together.
+fn sized(n: usize, m: usize, to: usize, cells: &[u16], scratch: &[u16]) -> bool
+    ensures { λ r. ⌜ Tested r (Sizes n m to (now (cells .entry)) (now (scratch .entry))) ⌝ }
+{
+    if 1024 < n {
+        return false;
+    }
+    if scratch.len() < 12 * n {
+        return false;
+    }
+    if n < to {
+        return false;
+    }
+    if 32 < m {
+        return false;
+    }
+    n * m <= cells.len()
+}
+
+// Whether row q and its targets are rows, and what stands for the targets are places at hand.
+fn readable(n: usize, m: usize, to: usize, cells: &[u16], scratch: &[u16], q: usize) -> bool
+    requires { ⌜ Sizes n m to (now cells) (now scratch) ⌝ }
+    ensures { λ r. ⌜ Tested r (Reads n m to (now (cells .entry)) (now (scratch .entry)) q) ⌝ }
+{
+    if n <= q {
+        return false;
+    }
+    let mut a = 0;
+    while a < m {
+        if n <= rules::wide(cells[q * m + a]) {
+            return false;
+        }
+        if to <= place_of(n, m, cells, scratch, q, a) {
+            return false;
+        }
+        a += 1;
+    }
+    true
+}
+
+// Whether that is so of all rows at hand.
+fn all_readable(n: usize, m: usize, to: usize, cells: &[u16], scratch: &[u16]) -> bool
+    requires { ⌜ Sizes n m to (now cells) (now scratch) ⌝ }
+    ensures { λ r. ⌜ (let s = now (scratch .entry) in Tested r ((i : ℕ) → i < to → Reads n m to (now (cells .entry)) s (rowIn n (front n s) i))) ⌝ }
+{
+    let mut i = 0;
+    while i < to {
+        if !readable(n, m, to, cells, scratch, rules::wide(scratch[3 * n + i])) {
+            return false;
+        }
+        i += 1;
+    }
+    true
+}
+
+// The classes of a level among the rows at hand: the leader of each place, from 4 * n on. Where the rows at hand cannot be read it changes nothing.
+pub fn settle(
+    top: bool,
+    mask: u32,
+    n: usize,
+    m: usize,
+    to: usize,
+    cells: &[u16],
+    marks: &[u8],
+    scratch: &mut [u16],
+)
+    ensures { λ r. ⌜ (let x = now (cells .entry) in let s = now (scratch .entry) in let t = now (scratch .exit) in let W = valuesBy top mask n m to x (now (marks .entry)) s in (Given n W x s → Settled n W s t) × ((Given n W x s → ⊥) → t ≡ s)) ⌝ }
+{
+    if !sized(n, m, to, cells, scratch) {
+        return;
+    }
+    if !all_readable(n, m, to, cells, scratch) {
+        return;
+    }
+    if to == 0 {
+        return;
+    }
+    scratch::clear(scratch, 4 * n, 4 * n + to);
+    let size = table_size(n, to);
+    mend(top, mask, n, m, to, cells, marks, scratch, size);
+}
