@@ -17,6 +17,11 @@ abbrev pub need : ℕ → Len → ℕ
 need k (len d) = k - d
 need k endless = 0
 
+-- The same by the row's lead, which is one more than its depth.
+abbrev pub needBy : ℕ → Len → ℕ
+needBy k (len c) = suc k - c
+needBy k endless = 0
+
 -- An offset as a number: none is taken as twice the rows.
 abbrev pub far : Machine → Offset → ℕ
 far M (offset k) = k
