@@ -28,11 +28,11 @@ use Rattle.levels.proofs.Order.{at-row, at-reached, one-place, at-deepe
 
 -- No offset is that of twice the rows.
 module _ (E : Events) (M : Machine) where
-  pub kept-far : (k : Offset) → 0 < M .rows → kept E M k ≡ kept E M (offset (far M k))
+  pub kept-far : (k : Offset) → 0 < M .rows → kept E M k ≡ kept E M (offset (far (M .rows) k))
   kept-far (offset k) pos = refl
   kept-far none pos = kept-none E M (2 * M .rows) pos (omega arith)
 
-  pub fold-far : (k : Offset) → 0 < M .rows → fold E M k ≡ fold E M (offset (far M k))
+  pub fold-far : (k : Offset) → 0 < M .rows → fold E M k ≡ fold E M (offset (far (M .rows) k))
   fold-far (offset k) pos = refl
   fold-far none pos = fold-none E M (2 * M .rows) pos (omega arith)
 
