@@ -14,38 +14,10 @@ use Rattle.tables.specs.Table.{Table, machine, eventsOf, weightBy}
 use Rattle.tables.proofs.Over.{over-length, over-before, over-inside, over-behind}
 use Rattle.rules.specs.Rules.{tableOf}
 use Rattle.scratch.specs.Scratch.{cleared}
+use Rattle.scratch.proofs.Cells.{cleared-length, cleared-before, cleared-behind, cleared-inside}
 use Rattle.scratch.proofs.Triangle.{eq-or-ne}
 use Rattle.quick_depths.specs.Leads.{leadIn, Space, Known, Kept, Grown, Grows, QuietRows, Settled, Begun, Found}
 use Rattle.quick_depths.proofs.AtRest.{cell-lead}
-
--- ---- zeros from one place up to another
-module _ (s : List ℕ) (from to : ℕ) (le : from ≤ to) (room : to ≤ length s) where
-  abbrev zeros : List ℕ
-  zeros = replicate (to - from) 0
-
-  fits : from + length zeros ≤ length s
-  fits = omega (arith, length-replicate {A = ℕ} (to - from) 0)
-
-  is-over : cleared s from to ≡ over s from zeros
-  unfolding cleared
-  is-over = rw (le-ltb (length s) to room)
-
-  pub cleared-length : length (cleared s from to) ≡ length s
-  cleared-length = ap length is-over ∙ over-length s from zeros fits
-
-  pub cleared-before : (k : ℕ) → k < from → getD (cleared s from to) k 0 ≡ getD s k 0
-  cleared-before k h = ap (λ (x : List ℕ). getD x k 0) is-over ∙ over-before s from zeros fits k 0 h
-
-  pub cleared-behind : (k : ℕ) → to ≤ k → getD (cleared s from to) k 0 ≡ getD s k 0
-  cleared-behind k h = ap (λ (x : List ℕ). getD x k 0) is-over ∙ over-behind s from zeros fits k 0 (omega (arith, length-replicate {A = ℕ} (to - from) 0))
-
-  pub cleared-inside : (k : ℕ) → from ≤ k → k < to → getD (cleared s from to) k 0 ≡ 0
-  cleared-inside k l h =
-      let e : k ≡ from + (k - from) = omega arith in
-      ap (λ (x : List ℕ). getD x k 0) is-over
-      ∙ ap (λ (x : ℕ). getD (over s from zeros) x 0) e
-      ∙ over-inside s from zeros fits (k - from) 0 (omega (arith, length-replicate {A = ℕ} (to - from) 0))
-      ∙ getD-replicate (to - from) (k - from) 0 0 (omega arith)
 
 -- ---- before the first event
 pub begun : {n start : ℕ} {s t u : List ℕ} (x : ℕ) → 0 < n → 12 * n ≤ length s → start < n → t ≡ cleared s 0 n → u ≡ cleared t (4 * n) (8 * n)
@@ -85,8 +57,8 @@ module _ (mask : ℕ) (T : Table) {s t : List ℕ} (b : Begun (T .rows) (T .star
 
 -- ---- at rest
 pub found : {mask n m start : ℕ} {cells s t u v w : List ℕ} → Space n m cells s → start < n → Begun n start s t → Grows mask n m cells t u → Settled mask n m cells u v
-    → w ≡ cleared v (4 * n) (8 * n) → Found mask n m start cells s w
-found {mask} {n} {m} {start} {cells} {s} {t} {u} {v} {w} space inside b g k e =
+    → w ≡ cleared v (4 * n) (8 * n) → (marks : List ℕ) → Found mask (tableOf n m start cells marks) s w
+found {mask} {n} {m} {start} {cells} {s} {t} {u} {v} {w} space inside b g k e marks =
     let vl : length v ≡ length s = k 0 [] .0 .kept .size ∙ g 0 [] .kept .size ∙ b .kept .size in
     let r : 8 * n ≤ length v = omega (arith, space .room) in
     let before : (j : ℕ) → j < 4 * n → getD w j 0 ≡ getD v j 0 = λ j h. ap (λ (y : List ℕ). getD y j 0) e ∙ cleared-before v (4 * n) (8 * n) (omega arith) r j h in
@@ -96,7 +68,7 @@ found {mask} {n} {m} {start} {cells} {s} {t} {u} {v} {w} space inside b g k e =
         spare = λ j l h. before j h ∙ k 0 [] .0 .kept .spare j l h ∙ g 0 [] .kept .spare j l h ∙ b .kept .spare j l h;
         behind = λ j l. ap (λ (y : List ℕ). getD y j 0) e ∙ cleared-behind v (4 * n) (8 * n) (omega arith) r j l ∙ k 0 [] .0 .kept .behind j l ∙ g 0 [] .kept .behind j l ∙ b .kept .behind j l;
       };
-      leads = λ marks q h.
+      leads = λ q h.
           before q (omega arith)
           ∙ cell-lead mask (tableOf n m start cells marks) v (space .given .few) (record { start-in = inside; target-in = space .given .target-in })
           (k start marks .0 .known (g start marks .known (first-known mask (tableOf n m start cells marks) b inside))) (k start marks .1) q h;

@@ -15,7 +15,7 @@ use Rattle.scratch.specs.Scratch.{cleared}
 use Rattle.quick_depths.specs.Leads.{leadIn, leftAt, seenAt, Space, Known, Marked, Grown, Grows}
 use Rattle.quick_depths.specs.Rounds.{Wide, From, Seeing, Spread, Fine, Dropped, Whole, SetRow, not-left, set-it, Round}
 use Rattle.quick_depths.proofs.Growth.{marked-none, marked-then, marked-set, grown-lead, grows-none}
-use Rattle.quick_depths.proofs.Finding.{cleared-length, cleared-before, cleared-behind, cleared-inside}
+use Rattle.scratch.proofs.Cells.{cleared-length, cleared-before, cleared-behind, cleared-inside}
 
 -- ---- rows that are dropped
 pub dropped-none : {n : ℕ} {s : List ℕ} {Rest : Type 0} → Rest → Dropped n s s false Rest

@@ -96,7 +96,7 @@ pub record Begun (n start : ℕ) (s t : List ℕ) : Type 0 where
   pub other : (q : ℕ) → q < n → (q ≡ start → ⊥) → leadIn t q ≡ 0
 
 -- Region 0 has the leads of the rows, the regions 4 to 7 are empty, and nothing else has changed.
-pub record Found (mask n m start : ℕ) (cells s t : List ℕ) : Type 0 where
-  pub kept : Kept n s t
-  pub leads : (marks : List ℕ) (q : ℕ) → q < n → leadIn t q ≡ lenCell (lead (eventsOf (weightBy mask) (tableOf n m start cells marks)) (machine (tableOf n m start cells marks)) q)
-  pub empty : (k : ℕ) → 4 * n ≤ k → k < 8 * n → getD t k 0 ≡ 0
+pub record Found (mask : ℕ) (T : Table) (s t : List ℕ) : Type 0 where
+  pub kept : Kept (T .rows) s t
+  pub leads : (q : ℕ) → q < T .rows → leadIn t q ≡ lenCell (lead (eventsOf (weightBy mask) T) (machine T) q)
+  pub empty : (k : ℕ) → 4 * T .rows ≤ k → k < 8 * T .rows → getD t k 0 ≡ 0

@@ -1,8 +1,11 @@
 // The leads of the rows of a table, in a few passes where no idle event leads to another row. They stand in region 0 of a scratch of 12 regions.
 ghost use mathlib.Core.Path.{_≡_};
-ghost use mathlib.Core.Bool.{true};
+ghost use mathlib.Core.Bool.{true, false};
+ghost use mathlib.Core.List.{List};
 ghost use Prim.Native.Nat.{ℕ, _+_, _*_, _≤_, _<_};
 ghost use lib.ListN.{length, getD};
+ghost use Rattle.rules.specs.Rules.{tableOf};
+ghost use Rattle.scratch.specs.Scratch.{fewCells, workableIn};
 ghost use Rattle.depths.specs.Steps.{further};
 ghost use Rattle.quick_depths.specs.Leads.{leadIn, Given, Space, Marked, Grows, Stepped, Quiet, QuietRow, QuietRows, Settled, Begun, Found};
 ghost use Rattle.quick_depths.specs.Rounds.{Wide, Seen, ByEvent, Spread, Fine, Dropped, Whole, SetRow, Round};
@@ -610,9 +613,9 @@ fn endless_unless(
 }
 
 // The leads of all rows, with the weights of events by a mask.
-pub fn depths(mask: u32, n: usize, m: usize, start: usize, cells: &[u16], scratch: &mut [u16])
+fn search(mask: u32, n: usize, m: usize, start: usize, cells: &[u16], scratch: &mut [u16])
     requires { ⌜ Space n m (now cells) (now scratch) × (start < n) ⌝ }
-    ensures { λ _. ⌜ Found mask n m start (now (cells .entry)) (now (scratch .entry)) (now (scratch .exit)) ⌝ }
+    ensures { λ _. ⌜ ((marks : List ℕ) → Found mask (tableOf n m start (now (cells .entry)) marks) (now (scratch .entry)) (now (scratch .exit))) ⌝ }
 {
     begin(n, start, scratch);
     let reached = reach(mask, n, m, cells, scratch);
@@ -621,4 +624,30 @@ pub fn depths(mask: u32, n: usize, m: usize, start: usize, cells: &[u16], scratc
     endless_unless(mask, n, m, cells, scratch, passed, reached);
     settle(mask, n, m, cells, scratch);
     scratch::clear(scratch, 4 * n, 8 * n);
+}
+
+// The same. Answers false, and does nothing, unless the table is valid and scratch has 12 cells for each row.
+pub fn depths(
+    mask: u32,
+    rows: usize,
+    events: usize,
+    start: usize,
+    cells: &[u16],
+    marks: &[u8],
+    scratch: &mut [u16],
+) -> bool
+    ensures { λ r. ⌜ (let T = tableOf rows events start (now (cells .entry)) (now (marks .entry)) in
+        let s = now (scratch .entry) in let t = now (scratch .exit) in
+        (r ≡ workableIn fewCells T (length s))
+        × (r ≡ true → Found mask T s t)
+        × (r ≡ false → t ≡ s)) ⌝ }
+{
+    if !scratch::valid(rows, events, start, cells, marks) {
+        return false;
+    }
+    if scratch.len() < 12 * rows {
+        return false;
+    }
+    search(mask, rows, events, start, cells, scratch);
+    true
 }
