@@ -1,15 +1,15 @@
 -- The pair that a place belongs to, and cells that are cleared.
 use Prim.Native.Nat.{ℕ, zero, suc, _+_, _-_, _*_, _≤_, _<_}
-use mathlib.Core.Path.{_≡_, refl, sym, ap, _∙_}
+use mathlib.Core.Path.{_≡_, refl, sym, ap, subst, _∙_}
 use mathlib.Core.List.{List, [], _∷_, _++_}
 use native.Mathlib.Nat.{le-of-lt, zero-add}
 use native.Mathlib.Omega.{arith}
 use native.Mathlib.Decide.{decLt}
 use borrow.Author.Tests.{lt-ltb, le-ltb}
-use lib.ListN.{length, getD, set, replicate, length-replicate}
+use lib.ListN.{length, getD, take, drop, set, replicate, length-replicate, getD-replicate}
 use lib.Seq.{ext-getD}
 use Rattle.tables.specs.Lists.{over}
-use Rattle.tables.proofs.Over.{over-length, over-set, over-over, over-inside, over-behind}
+use Rattle.tables.proofs.Over.{over-length, over-set, over-over, over-before, over-inside, over-behind, take-before-over, drop-over}
 use Rattle.scratch.specs.Scratch.{triangle, pairFrom, pairAt, needed, scratchCells, cleared}
 use Rattle.scratch.proofs.Triangle.{needed-value}
 
@@ -67,6 +67,44 @@ clear-all s from to i t e h room = rw (le-ltb (length s) to room) (e ∙ ap (λ 
 
 pub same-place : (s : List ℕ) {q m a x y z : ℕ} → x ≡ q → y ≡ m → z ≡ a → getD s (x * y + z) 0 ≡ getD s (q * m + a) 0
 same-place s e f g = rw (e, f, g)
+
+-- What stands in, before and behind cells that are cleared.
+module _ (s : List ℕ) (from to : ℕ) (le : from ≤ to) (room : to ≤ length s) where
+  abbrev zeros : List ℕ
+  zeros = replicate (to - from) 0
+
+  fits : from + length zeros ≤ length s
+  fits = omega (arith, length-replicate {A = ℕ} (to - from) 0)
+
+  pub cleared-over : cleared s from to ≡ over s from (replicate (to - from) 0)
+  unfolding cleared
+  cleared-over = rw (le-ltb (length s) to room)
+
+  pub cleared-length : length (cleared s from to) ≡ length s
+  cleared-length = ap length cleared-over ∙ over-length s from zeros fits
+
+  pub cleared-before : (k : ℕ) → k < from → getD (cleared s from to) k 0 ≡ getD s k 0
+  cleared-before k h = ap (λ (x : List ℕ). getD x k 0) cleared-over ∙ over-before s from zeros fits k 0 h
+
+  pub cleared-behind : (k : ℕ) → to ≤ k → getD (cleared s from to) k 0 ≡ getD s k 0
+  cleared-behind k h = ap (λ (x : List ℕ). getD x k 0) cleared-over ∙ over-behind s from zeros fits k 0 (omega (arith, length-replicate {A = ℕ} (to - from) 0))
+
+  pub cleared-inside : (k : ℕ) → from ≤ k → k < to → getD (cleared s from to) k 0 ≡ 0
+  cleared-inside k l h =
+      let e : k ≡ from + (k - from) = omega arith in
+      ap (λ (x : List ℕ). getD x k 0) cleared-over
+      ∙ ap (λ (x : ℕ). getD (over s from zeros) x 0) e
+      ∙ over-inside s from zeros fits (k - from) 0 (omega (arith, length-replicate {A = ℕ} (to - from) 0))
+      ∙ getD-replicate (to - from) (k - from) 0 0 (omega arith)
+
+  -- The same of the lists before and behind.
+  pub cleared-take : take from (cleared s from to) ≡ take from s
+  cleared-take = ap (take from) cleared-over ∙ take-before-over s from zeros fits
+
+  pub cleared-drop : drop to (cleared s from to) ≡ drop to s
+  cleared-drop =
+      let e : to ≡ from + length zeros = omega (arith, length-replicate {A = ℕ} (to - from) 0) in
+      ap (drop to) cleared-over ∙ subst (λ (k : ℕ). drop k (over s from zeros) ≡ drop k s) (sym e) (drop-over s from zeros fits)
 
 -- Cells in front that are cleared.
 pub clear-front : (s : List ℕ) (count : ℕ) → count ≤ length s → cleared s 0 count ≡ over s 0 (replicate count 0)
