@@ -64,7 +64,7 @@ module _ {T : Table} {k : ℕ} {s : List ℕ} (f : Fits T k s) where
   pub fits-still : {t : List ℕ} → length t ≡ length s → Fits T k t
   fits-still e = record { workable = rw e (f .workable); offset = f .offset }
 
-module _ {T : Table} {mask k L i j u : ℕ} {s : List ℕ} (f : Fits T k s) (b : Before (eventsOf (weightBy mask) T) (machine T) k L i j u s) where
+module _ {T : Table} (mask : ℕ) {k L i j u : ℕ} {s : List ℕ} (f : Fits T k s) (b : Before (eventsOf (weightBy mask) T) (machine T) k L i j u s) where
   abbrev n : ℕ
   n = T .rows
 
@@ -227,5 +227,5 @@ module _ {T : Table} {mask k L i j u : ℕ} {s : List ℕ} (f : Fits T k s) (b :
             }
 
         at : (H : ℕ) → L ≡ H → Classes.Settled n (seen (eqb H 0)) t w → Settled E M k H i j (nxtAt n w)
-        at zero e = by (hand-first e)
+        at zero e g = by (hand-first e) g
         at (suc K) e g = by (hand-next K e) (subst (λ (top : Bool). Classes.Settled n (seen top) t w) (eqb·suc-zero K) g)

@@ -9,7 +9,7 @@ use lib.Seq.{getD-set-same, getD-set-other}
 use Rattle.scratch.proofs.Triangle.{eq-or-ne}
 use borrow.Author.Tests.{eq-eqb, ne-eqb}
 use Rattle.classes.specs.Places.{nxtAt}
-use Rattle.quick_folding.specs.Parts.{listAt, valueAt, needCell, Appendable, Appended, Valued}
+use Rattle.quick_folding.specs.Parts.{labelAt, listAt, valueAt, needCell, foldAt, Appendable, Appended, Valued, Labels}
 
 pub append-none : {n u i : ℕ} (s : List ℕ) → Appended n u i 0 s s
 append-none s =
@@ -79,7 +79,7 @@ append-next {n} {u} {i} {x} {s} {t} count q w p d l e same =
 pub valued-none : {n : ℕ} {f : ℕ → ℕ} (s : List ℕ) → Valued n 0 f s s
 valued-none s = record { size = refl; here = λ q h. absurd (omega arith); below = λ k h. refl; above = λ k h. refl }
 
-pub valued-next : {n q : ℕ} {f : ℕ → ℕ} {s t : List ℕ} (x : ℕ) → 5 * n ≤ length s → q < n → Valued n q f s t → x ≡ f q → Valued n (q + 1) f s (set t (2 * n + q) x)
+pub valued-next : {n q : ℕ} {f : ℕ → ℕ} {s t : List ℕ} (x : ℕ) → 3 * n ≤ length s → q < n → Valued n q f s t → x ≡ f q → Valued n (q + 1) f s (set t (2 * n + q) x)
 valued-next {n} {q} {f} {s} {t} x room h d e =
     let z = d .size in
     let room : 2 * n + q < length t = omega arith in
@@ -113,3 +113,31 @@ need-none k c ne h = omega (arith, need-is k c ne)
 
 pub need-some : (k c w : ℕ) → (c ≡ 65535 → ⊥) → w ≡ c → k + 1 - w ≡ needCell k c
 need-some k c w ne h = omega (arith, need-is k c ne)
+
+-- ---- the rows into which rows fold
+module _ (n : ℕ) (s : List ℕ) (q : ℕ) where
+  pub fold-none : getD s q 0 ≡ 0 → foldAt n s q ≡ 0
+  unfolding foldAt
+  fold-none e = rw (eq-eqb (getD s q 0) 0 e)
+
+  pub fold-some : (getD s q 0 ≡ 0 → ⊥) → foldAt n s q ≡ listAt n s (labelAt n s q)
+  unfolding foldAt
+  fold-some ne = rw (ne-eqb (getD s q 0) 0 ne)
+
+-- Writing values changes neither the labels nor what stands there.
+module _ {n count : ℕ} {f : ℕ → ℕ} {s t : List ℕ} (l : Labels n s) (d : Valued n count f s t) where
+  pub labels-still : Labels n t
+  labels-still =
+      record {
+        few = l .few;
+        room = omega (arith, l .room, d .size);
+        inside = λ q h ne. omega (arith, d .below (n + q) (omega arith), l .inside q h (λ e. ne (d .below q (omega arith) ∙ e)));
+      }
+
+  pub fold-still : (q : ℕ) → q < n → count ≤ n → foldAt n t q ≡ foldAt n s q
+  fold-still q h fits =
+      let lead : getD t q 0 ≡ getD s q 0 = d .below q (omega arith) in
+      ⊎-elim
+      (λ e. fold-none n t q (lead ∙ e) ∙ sym (fold-none n s q e))
+      (λ ne. fold-some n t q (λ e. ne (sym lead ∙ e)) ∙ ap (listAt n t) (d .below (n + q) (omega arith)) ∙ d .above (3 * n + labelAt n s q) (omega arith) ∙ sym (fold-some n s q ne))
+      (eq-or-ne (getD s q 0) 0)

@@ -1,6 +1,4 @@
-use mathlib.Core.Path.{refl}
-use lib.Dec.{eqb}
-use Rattle.quick_folding.proofs.Entering.{appendable, bounds, given-at}
+use Rattle.quick_folding.proofs.Entering.{shape, appendable, bounds, given}
 use Rattle.quick_folding.proofs.Leaving.{renewable, takable, level-after}
 use native.Mathlib.Omega.{arith}
 use borrow.Author.Needs.{needs}
@@ -11,39 +9,39 @@ append-requires : tie.Need-append-requires
 append-requires c κs =
     let a = c .before .before .before .before .args in
     let p = c .before .before .before .before .pre in
-    appendable (a .mask) (a .n) (a .m) (a .start) (a .k) (a .cells .now) (a .marks .now) (p .0 .valid) (p .0 .room) (p .1)
+    appendable (a .mask) (p .0) (p .1)
 
 add-settle : tie.Need-add-settle
 add-settle c =
     let a = c .before .before .before .before .before .before .before .args in
     let p = c .before .before .before .before .before .before .before .pre in
-    let b = bounds (a .mask) (a .n) (a .m) (a .start) (a .k) (a .cells .now) (a .marks .now) (p .0 .valid) (p .0 .room) (p .1) in
-    omega (arith, b .0, b .1, b .2, p .0 .valid .rows-fit)
+    let b = bounds (a .mask) (p .0) (p .1) in
+    omega (arith, b .0, b .1, b .2, shape (p .0) .rows-fit)
 
 settle-requires : tie.Need-settle-requires
 settle-requires c κs =
     let a = c .before .before .before .before .before .before .before .before .args in
     let p = c .before .before .before .before .before .before .before .before .pre in
-    let f = given-at (a .mask) (a .n) (a .m) (a .start) (a .k) (a .cells .now) (a .marks .now) (p .0 .valid) (p .0 .room) (p .1) (c .before .before .before .append .ensures) (a .level) (eqb (a .level) 0) refl refl in
-    (f, omega (arith, p .0 .valid .some-row))
+    let f = given (a .mask) (p .0) (p .1) (c .before .before .before .append .ensures) in
+    (f, omega (arith, shape (p .0) .some-row))
 
 renew-requires : tie.Need-renew-requires
 renew-requires c κs =
     let a = c .before .before .before .before .before .before .before .before .before .before .before .before .args in
     let p = c .before .before .before .before .before .before .before .before .before .before .before .before .pre in
-    renewable (a .mask) (a .n) (a .m) (a .start) (a .k) (a .cells .now) (a .marks .now) (p .0 .valid) (p .0 .room) (p .1) (c .before .before .before .before .before .before .before .append .ensures) (eqb (a .level) 0) refl (c .before .before .before .settle .ensures)
+    renewable (a .mask) (p .0) (p .1) (c .before .before .before .before .before .before .before .append .ensures) (c .before .before .before .settle .ensures)
 
 take-new-requires : tie.Need-take-new-requires
 take-new-requires c κs =
     let a = c .before .before .before .before .before .before .before .before .before .before .before .before .before .before .before .before .args in
     let p = c .before .before .before .before .before .before .before .before .before .before .before .before .before .before .before .before .pre in
-    takable (a .mask) (a .n) (a .m) (a .start) (a .k) (a .cells .now) (a .marks .now) (p .0 .valid) (p .0 .room) (p .1) (c .before .before .before .before .before .before .before .before .before .before .before .append .ensures) (eqb (a .level) 0) refl (c .before .before .before .before .before .before .before .settle .ensures) (c .before .before .before .renew .ensures)
+    takable (a .mask) (p .0) (p .1) (c .before .before .before .before .before .before .before .before .before .before .before .append .ensures) (c .before .before .before .before .before .before .before .settle .ensures) (c .before .before .before .renew .ensures)
 
 returns : tie.Need-returns
 returns c =
     let a = c .before .before .before .before .before .before .before .before .before .before .before .before .before .before .before .before .before .before .before .args in
     let p = c .before .before .before .before .before .before .before .before .before .before .before .before .before .before .before .before .before .before .before .pre in
-    level-after (a .mask) (a .n) (a .m) (a .start) (a .k) (a .cells .now) (a .marks .now) (p .0 .valid) (p .0 .room) (p .1) (c .before .before .before .before .before .before .before .before .before .before .before .before .before .before .append .ensures) (eqb (a .level) 0) refl (c .before .before .before .before .before .before .before .before .before .before .settle .ensures) (c .before .before .before .before .before .before .renew .ensures) (c .before .before .take-new .ensures)
+    level-after (a .mask) (p .0) (p .1) (c .before .before .before .before .before .before .before .before .before .before .before .before .before .before .append .ensures) (c .before .before .before .before .before .before .before .before .before .before .settle .ensures) (c .before .before .before .before .before .before .renew .ensures) (c .before .before .take-new .ensures)
 
 pub any-level-spec : {M : Type 1} → statement M
 any-level-spec =

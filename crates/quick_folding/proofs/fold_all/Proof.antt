@@ -1,20 +1,22 @@
 use Prim.Native.Nat.{_-_}
-use mathlib.Core.Path.{refl, _∙_}
+use mathlib.Core.Path.{_∙_}
+use Rattle.tables.specs.Table.{weightBy, machine, eventsOf}
+use Rattle.rules.specs.Rules.{tableOf}
 use Rattle.quick_folding.specs.State.{Apart, Going}
-use Rattle.quick_folding.proofs.Entering as In
+use Rattle.quick_folding.proofs.Entering.{fits-still}
 use Rattle.quick_folding.proofs.Ending.{apart-none, apart-then, folded}
 use native.Mathlib.Omega.{arith}
+use borrow.Author.Needs.{needs}
 use Rattle.quick_folding.proofs.fold_all.Statement.{statement}
 use Rattle.quick_folding.proofs.fold_all.Tie as tie
 
 abbrev Inv-loop : tie.InvT-loop
-Inv-loop k mask n m start cells marks scratch₀ count x₀ scratch x = Apart n scratch₀ scratch × Going (In.E mask n m start k cells marks) (In.M mask n m start k cells marks) n k (x .level) (x .place) (x .kept) (x .rest) scratch
+Inv-loop k mask n m start cells marks scratch₀ count x₀ scratch x =
+    Apart n scratch₀ scratch
+    × Going (eventsOf (weightBy mask) (tableOf n m start cells marks)) (machine (tableOf n m start cells marks)) k (x .level) (x .place) (x .kept) (x .rest) scratch
 
 abbrev μ-loop : tie.MeasureT-loop
 μ-loop k mask n m start cells marks scratch₀ count x₀ scratch x = k - x .level
-
-first-level-requires : tie.Need-first-level-requires Inv-loop μ-loop
-first-level-requires c κs = (c .before .before .before .before .pre .0, c .before .before .before .before .pre .1)
 
 loop-holds : tie.Need-loop-holds Inv-loop μ-loop
 loop-holds c = (apart-none, c .before .before .first-level .ensures .1)
@@ -23,7 +25,7 @@ next-level-requires : tie.Need-next-level-requires Inv-loop μ-loop
 next-level-requires c κs =
     let p = c .before .before .before .before .before .before .before .before .before .before .before .pre in
     let l = c .before .before .before .loop .inv in
-    (record { valid = p .0 .valid; room = omega (arith, l .0 .size, c .before .before .before .before .before .before .first-level .ensures .0 .size, p .0 .room); offset = p .0 .offset }, (l .1, p .1 .1, c .before .if1 .taken))
+    (fits-still (p .0) (l .0 .size ∙ c .before .before .before .before .before .before .first-level .ensures .0 .size), l .1, p .2, c .before .if1 .taken)
 
 loop-less : tie.Need-loop-less Inv-loop μ-loop
 loop-less c =
@@ -40,10 +42,9 @@ same-length c = c .before .before .loop .inv .0 .size ∙ c .before .before .bef
 
 returns : tie.Need-returns Inv-loop μ-loop
 returns c =
-    let a = c .before .before .before .before .before .before .before .before .before .before .args in
     let p = c .before .before .before .before .before .before .before .before .before .before .pre in
     let l = c .before .before .loop .inv in
-    folded (In.sound (a .mask) (a .n) (a .m) (a .start) (a .k) (a .cells .now) (a .marks .now) (p .0 .valid)) (In.light (a .mask) (a .n) (a .m) (a .start) (a .k) (a .cells .now) (a .marks .now) (p .0 .valid)) refl (apart-then (c .before .before .before .before .before .first-level .ensures .0) (l .0)) (l .1) (omega (arith, p .1 .1, c .if1 .left))
+    folded (apart-then (c .before .before .before .before .before .first-level .ensures .0) (l .0)) (l .1) (omega (arith, p .2, c .if1 .left))
 
 pub fold-all-spec : {M : Type 1} → statement M
 fold-all-spec =
@@ -51,7 +52,7 @@ fold-all-spec =
     (tie.spec
     Inv-loop
     μ-loop
-    first-level-requires
+    (λ c κs. search needs)
     loop-holds
     next-level-requires
     loop-less

@@ -20,19 +20,19 @@ slice-read-wide : tie.Need-slice-read-wide Inv-loop μ-loop
 slice-read-wide c = omega (arith, c .before .before .loop .inv .1 .size)
 
 add-scratch : tie.Need-add-scratch Inv-loop μ-loop
-add-scratch c = omega (arith, relabel-read _ (c .before .before .before .loop .inv .1) (c .before .before .loop-test .taken) (c .before .before .before .before .before .pre .2) (c .wide .ensures) .1)
+add-scratch c = omega (arith, relabel-read _ (c .before .before .before .loop .inv .1) (c .before .before .loop-test .taken) (c .before .before .before .before .before .pre .values) (c .wide .ensures) .1)
 
 mul-scratch-2 : tie.Need-mul-scratch-2 Inv-loop μ-loop
-mul-scratch-2 c = omega (arith, relabel-read _ (c .before .before .before .loop .inv .1) (c .before .before .loop-test .taken) (c .before .before .before .before .before .pre .2) (c .wide .ensures) .1)
+mul-scratch-2 c = omega (arith, relabel-read _ (c .before .before .before .loop .inv .1) (c .before .before .loop-test .taken) (c .before .before .before .before .before .pre .values) (c .wide .ensures) .1)
 
 slice-read-scratch : tie.Need-slice-read-scratch Inv-loop μ-loop
-slice-read-scratch c = omega (arith, relabel-read _ (c .before .before .before .before .loop .inv .1) (c .before .before .before .loop-test .taken) (c .before .before .before .before .before .before .pre .2) (c .before .wide .ensures) .1, c .before .before .before .before .loop .inv .1 .size)
+slice-read-scratch c = omega (arith, relabel-read _ (c .before .before .before .before .loop .inv .1) (c .before .before .before .loop-test .taken) (c .before .before .before .before .before .before .pre .values) (c .before .wide .ensures) .1, c .before .before .before .before .loop .inv .1 .size)
 
 slice-write-scratch : tie.Need-slice-write-scratch Inv-loop μ-loop
 slice-write-scratch c = omega (arith, c .before .before .before .before .loop .inv .1 .size)
 
 loop-again : tie.Need-loop-again Inv-loop μ-loop
-loop-again c = (omega arith, valued-next _ (c .before .before .before .before .before .before .pre .0) (c .before .before .before .loop-test .taken) (c .before .before .before .before .loop .inv .1) (relabel-read _ (c .before .before .before .before .loop .inv .1) (c .before .before .before .loop-test .taken) (c .before .before .before .before .before .before .pre .2) (c .before .wide .ensures) .0))
+loop-again c = (omega arith, valued-next _ (omega (arith, c .before .before .before .before .before .before .pre .room)) (c .before .before .before .loop-test .taken) (c .before .before .before .before .loop .inv .1) (relabel-read _ (c .before .before .before .before .loop .inv .1) (c .before .before .before .loop-test .taken) (c .before .before .before .before .before .before .pre .values) (c .before .wide .ensures) .0))
 
 same-length : tie.Need-same-length Inv-loop μ-loop
 same-length c = c .before .loop .inv .1 .size

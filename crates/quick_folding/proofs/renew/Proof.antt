@@ -8,6 +8,9 @@ use Rattle.quick_folding.proofs.renew.Tie as tie
 returns : tie.Need-returns
 returns c = record { size = refl; below = λ k h. refl; above = λ k h. refl; some = λ e. absurd (true≢false e); still = λ e. (c .before .still .ensures .0 (c .if1 .taken), refl); changed = λ e. absurd (true≢false e) }
 
+relabel-requires : tie.Need-relabel-requires
+relabel-requires c κs = let p = c .before .before .before .before .before .pre in record { few = p .few; room = p .room; values = p .values; fits = omega arith; rows = λ x h. absurd (omega arith) }
+
 returns-2 : tie.Need-returns-2
 returns-2 c =
     let f = c .before .before .relabel .ensures in
@@ -20,6 +23,6 @@ renew-spec =
     (λ c κs. search needs)
     (λ c. search needs)
     returns
-    (λ c κs. search needs)
+    relabel-requires
     (λ c. search needs)
     returns-2)

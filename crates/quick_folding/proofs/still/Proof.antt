@@ -17,13 +17,13 @@ loop-holds : tie.Need-loop-holds Inv-loop μ-loop
 loop-holds c = (omega arith, λ j h. absurd (omega arith))
 
 add-if1-2 : tie.Need-add-if1-2 Inv-loop μ-loop
-add-if1-2 c = omega (arith, c .before .wide .ensures, c .before .before .before .before .before .before .pre .2 (c .before .before .before .before .loop .i) (c .before .before .before .loop-test .taken))
+add-if1-2 c = omega (arith, c .before .wide .ensures, c .before .before .before .before .before .before .pre .rows (c .before .before .before .before .loop .i) (c .before .before .before .loop-test .taken))
 
 mul-if1-4 : tie.Need-mul-if1-4 Inv-loop μ-loop
-mul-if1-4 c = omega (arith, c .before .wide .ensures, c .before .before .before .before .before .before .pre .2 (c .before .before .before .before .loop .i) (c .before .before .before .loop-test .taken))
+mul-if1-4 c = omega (arith, c .before .wide .ensures, c .before .before .before .before .before .before .pre .rows (c .before .before .before .before .loop .i) (c .before .before .before .loop-test .taken))
 
 shared-slice-read-if1-2 : tie.Need-shared-slice-read-if1-2 Inv-loop μ-loop
-shared-slice-read-if1-2 c = omega (arith, c .before .before .wide .ensures, c .before .before .before .before .before .before .before .pre .2 (c .before .before .before .before .before .loop .i) (c .before .before .before .before .loop-test .taken))
+shared-slice-read-if1-2 c = omega (arith, c .before .before .wide .ensures, c .before .before .before .before .before .before .before .pre .rows (c .before .before .before .before .before .loop .i) (c .before .before .before .before .loop-test .taken))
 
 returns : tie.Need-returns Inv-loop μ-loop
 returns c = (λ e. absurd (false≢true e), λ e. omega (arith, c .before .before .before .before .before .loop-test .taken))
