@@ -9,10 +9,9 @@ use borrow.Author.Tests.{eqb-true, eqb-false}
 use lib.ListN.{length, getD}
 use Rattle.automata.specs.Runs.{Events, Machine, Run, size, after, Near}
 use Rattle.automata.proofs.Runs.{near-refl, near-sym, near-trans, near-up, near-step, near-cast}
-use Rattle.tables.specs.Table.{machine}
+use Rattle.tables.specs.Table.{machine, weightBy}
 use Rattle.rules.specs.Rules.{tableOf}
-use Rattle.tables.specs.Table.{weightBy}
-use Rattle.classes.specs.Places.{front, nxtAt}
+use Rattle.splitting.specs.Places.{front, nxtAt}
 use Rattle.classes.specs.Values.{Values, valuesBy, outerBy, Given}
 use Rattle.classes.specs.Steps.{Settled}
 use Rattle.classes.proofs.Exact.{Kept, Largest, Exact, settled-exact}
@@ -165,14 +164,13 @@ module _ {top : Bool} {mask n m to start : ℕ} {cells marks s : List ℕ} {L : 
   pub given-of : n ≤ 1024 → 12 * n ≤ length s → to ≤ n → m ≤ 32 → n * m ≤ length cells → ((q : ℕ) → hand q → q < n) → Given n (valuesBy top mask n m to cells marks s) cells s
   given-of few room fits events all row =
       record {
-        few = few;
-        room = room;
-        inside = fits;
-        events = events;
-        all-cells = all;
-        rows = λ i l. row (rowAt n s i) (h .rows i l);
-        targets = λ i a l g. row (getD cells (rowAt n s i * m + a) 0) (h .closed (rowAt n s i) a (h .rows i l) g);
-        places = λ i a l g. h .inside (getD cells (rowAt n s i * m + a) 0) (h .closed (rowAt n s i) a (h .rows i l) g);
+        sizes = record { few = few; room = room; inside = fits; events = events; all-cells = all };
+        within = λ i l.
+            record {
+              row = row (rowAt n s i) (h .rows i l);
+              targets = λ a g. row (getD cells (rowAt n s i * m + a) 0) (h .closed (rowAt n s i) a (h .rows i l) g);
+              places = λ a g. h .inside (getD cells (rowAt n s i * m + a) 0) (h .closed (rowAt n s i) a (h .rows i l) g);
+            };
       }
 
 -- ---- how a caller comes by it
@@ -216,23 +214,3 @@ module _ (mask n m to start : ℕ) (cells marks s : List ℕ) {hand : ℕ → Ty
     where
       less : suc L - 1 ≡ L
       less = omega arith
-
--- What the sweep carries on: the classes of `Near L` among the rows at hand, each row with the first place of its class.
-pub record Classed (E : Events) (M : Machine) (L to : ℕ) (row place : ℕ → ℕ) (hand : ℕ → Type 0) : Type 0 where
-  pub inside : (q : ℕ) → hand q → place q < to
-  pub same : (q p : ℕ) → hand q → hand p → Near E M M L q p → place q ≡ place p
-  pub same-back : (q p : ℕ) → hand q → hand p → place q ≡ place p → Near E M M L q p
-  pub member : (q : ℕ) → hand q → Near E M M L q (row (place q))
-  pub least : (q i : ℕ) → hand q → i < to → Near E M M L q (row i) → place q ≤ i
-
--- With the leader of its place for its place, every row has that.
-pub relabelled : {E : Events} {M : Machine} {L : ℕ} {W : Values} {place f : ℕ → ℕ} {hand old : ℕ → Type 0} → Level E M L W place hand old
-    → Exact W (λ i j. Near E M M L (W .row i) (W .row j)) f → Classed E M L (W .count) (W .row) (λ q. f (place q)) hand
-relabelled {E} {M} {L} {W} {place} {f} v x =
-    record {
-      inside = λ q h. x .inside (place q) (v .inside q h);
-      same = λ q p h g n. x .sound (place q) (place p) (v .inside q h) (v .inside p g) (near-trans (near-sym (v .stands q h)) (near-trans n (v .stands p g)));
-      same-back = λ q p h g e. near-trans (v .stands q h) (near-trans (x .complete (place q) (place p) (v .inside q h) (v .inside p g) e) (near-sym (v .stands p g)));
-      member = λ q h. near-trans (v .stands q h) (x .member (place q) (v .inside q h));
-      least = λ q i h l n. x .least (place q) i (v .inside q h) l (near-trans (near-sym (v .stands q h)) n);
-    }

@@ -7,7 +7,7 @@ use lib.Dec.{eqb}
 use lib.ListN.{length, getD}
 use Rattle.tables.specs.Table.{markOf}
 use Rattle.tables.specs.Table.{weightBy}
-use Rattle.classes.specs.Places.{front}
+use Rattle.splitting.specs.Places.{front}
 
 -- The rows at hand stand at the places below `count`. At the top level marks count, and every event is an inner one;
 -- at others a counted event is outer: the place to which it leads is of a class that is known.
@@ -22,10 +22,20 @@ pub record Values : Type 0 where
   pub target : ℕ → ℕ → ℕ
   pub to : ℕ → ℕ → ℕ
 
+-- In a stored table, and in the cells b in front: the row at a place; of a row, its target at an event, and the place that stands for that target.
+abbrev pub rowIn : ℕ → List ℕ → ℕ → ℕ
+rowIn n b i = getD b (3 * n + i) 0
+
+abbrev pub targetIn : ℕ → List ℕ → ℕ → ℕ → ℕ
+targetIn m cells q a = getD cells (q * m + a) 0
+
+abbrev pub placeIn : ℕ → ℕ → List ℕ → List ℕ → ℕ → ℕ → ℕ
+placeIn n m cells b q a = getD b (2 * n + targetIn m cells q a) 0
+
 abbrev pub outerBy : Bool → ℕ → ℕ → Bool
 outerBy top mask a = cond top false (eqb (weightBy mask a) 1)
 
--- What the cells in front say.
+-- What those cells say.
 abbrev pub valuesOn : Bool → ℕ → ℕ → ℕ → ℕ → List ℕ → List ℕ → List ℕ → Values
 valuesOn top mask n m count cells marks b =
     record {
@@ -33,10 +43,10 @@ valuesOn top mask n m count cells marks b =
       events = m;
       top = top;
       outer = outerBy top mask;
-      row = λ i. getD b (3 * n + i) 0;
+      row = rowIn n b;
       mark = markOf marks;
-      target = λ q a. getD cells (q * m + a) 0;
-      to = λ q a. getD b (2 * n + getD cells (q * m + a) 0) 0;
+      target = targetIn m cells;
+      to = placeIn n m cells b;
     }
 
 abbrev pub valuesBy : Bool → ℕ → ℕ → ℕ → ℕ → List ℕ → List ℕ → List ℕ → Values
@@ -71,13 +81,25 @@ pub data Made (W : Values) : (ℕ → ℕ) → Type 0 where
   by-outer : (f g : ℕ → ℕ) (a : ℕ) → Made W f → a < W .events → W .outer a ≡ true → SplitBy W (λ i. W .to (W .row i) a) f g → Made W g
   by-jump : (f g h : ℕ → ℕ) → Made W f → Jump W h → ((i : ℕ) → i < W .count → h i < W .count) → SplitBy W (λ i. f (h i)) f g → Made W g
 
--- Rows at hand are rows, and what they lead to stands for places at hand.
-pub record Given (n : ℕ) (W : Values) (cells s : List ℕ) : Type 0 where
+-- The numbers of rows, events and places, and the lent cells, fit together.
+pub record Sizes (n m count : ℕ) (cells s : List ℕ) : Type 0 where
   pub few : n ≤ 1024
   pub room : 12 * n ≤ length s
-  pub inside : W .count ≤ n
-  pub events : W .events ≤ 32
-  pub all-cells : n * W .events ≤ length cells
-  pub rows : (i : ℕ) → i < W .count → W .row i < n
-  pub targets : (i a : ℕ) → i < W .count → a < W .events → W .target (W .row i) a < n
-  pub places : (i a : ℕ) → i < W .count → a < W .events → W .to (W .row i) a < W .count
+  pub inside : count ≤ n
+  pub events : m ≤ 32
+  pub all-cells : n * m ≤ length cells
+
+-- Row q and its targets are rows, and what stands for the targets are places at hand.
+pub record Within (n m count : ℕ) (target to : ℕ → ℕ → ℕ) (q : ℕ) : Type 0 where
+  pub row : q < n
+  pub targets : (a : ℕ) → a < m → target q a < n
+  pub places : (a : ℕ) → a < m → to q a < count
+
+-- The same in a stored table and the cells in front.
+abbrev pub Reads : ℕ → ℕ → ℕ → List ℕ → List ℕ → ℕ → Type 0
+Reads n m count cells s = Within n m count (targetIn m cells) (placeIn n m cells (front n s))
+
+-- What the search for the classes of a level needs.
+pub record Given (n : ℕ) (W : Values) (cells s : List ℕ) : Type 0 where
+  pub sizes : Sizes n (W .events) (W .count) cells s
+  pub within : (i : ℕ) → i < W .count → Within n (W .events) (W .count) (W .target) (W .to) (W .row i)

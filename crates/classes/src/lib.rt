@@ -1,85 +1,21 @@
 // The classes of a level among the rows at hand: from one class by splits that keep like rows together, until no row is unlike the first of its class.
 ghost use mathlib.Core.Path.{_≡_};
-ghost use mathlib.Core.Bool.{true, false};
+ghost use mathlib.Core.Bool.{false};
+ghost use mathlib.Core.List.{[]};
 ghost use mathlib.Core.Logic.{_⊎_};
-ghost use Prim.Native.Nat.{ℕ, _+_, _-_, _*_, _≤_, _<_};
+ghost use Prim.Native.Nat.{ℕ, _+_, _*_, _≤_, _<_};
 ghost use lib.Dec.{eqb};
 ghost use lib.ListN.{length, getD};
 ghost use Rattle.tables.specs.Table.{markOf};
-ghost use Rattle.classes.specs.Places.{front, nxtAt, keyAt, jumpAt, slotOf, Filled, Canon, Room, Turn, Turning, Split, Span};
-ghost use Rattle.classes.specs.Values.{valuesBy, value, outerBy, Alike, Given};
-ghost use Rattle.classes.specs.Steps.{Within, First, Fault, Begun, Jumps, Moved, Inner, Doubled, Refined, Settled};
-
-// The slot of a class and a key in a table whose size is a power of 2.
-fn slot(c: usize, h: usize, size: usize) -> usize
-    requires { ⌜ (c < 65536) × (h < 65536) × (0 < size) ⌝ }
-    ensures { λ r. ⌜ (r ≡ slotOf c h size) × (r < size) ⌝ }
-{
-    (((h * 65536 + c) * 2654435769) / 65536) & (size - 1)
-}
-
-// One place's turn: where it has another key than its leader, it goes to the place in the slot of its class and key, or leads and takes that slot.
-fn split_one(scratch: &mut [u16], n: usize, i: usize, size: usize) -> bool
-    requires { ⌜ Turning n size i (now scratch) ⌝ }
-    ensures { λ r. ⌜ Turn n size i (now (scratch .entry)) (now (scratch .exit)) r ⌝ }
-{
-    let c = scratch[4 * n + i];
-    let h = scratch[6 * n + i];
-    if h == scratch[6 * n + rules::wide(c)] {
-        return false;
-    }
-    let at = 9 * n + slot(rules::wide(c), rules::wide(h), size);
-    let x = rules::wide(scratch[at]);
-    if x == 0 {
-        scratch[at] = (i + 1) as u16;
-        scratch[5 * n + i] = c;
-        scratch[4 * n + i] = i as u16;
-        return true;
-    }
-    if scratch[5 * n + (x - 1)] != c {
-        return false;
-    }
-    if scratch[6 * n + (x - 1)] != h {
-        return false;
-    }
-    scratch[4 * n + i] = (x - 1) as u16;
-    false
-}
-
-// Zeros from one cell on.
-fn blank(scratch: &mut [u16], n: usize, at: usize, count: usize)
-    requires { ⌜ Span n at count (now scratch) ⌝ }
-    ensures { λ r. ⌜ Filled n at count (λ i. 0) (now (scratch .entry)) (now (scratch .exit)) ⌝ }
-{
-    let mut i = 0;
-    while i < count {
-        scratch[at + i] = 0;
-        i += 1;
-    }
-}
-
-// Splits all classes by their keys; answers whether that made a leader.
-fn split(scratch: &mut [u16], n: usize, to: usize, size: usize) -> bool
-    requires { ⌜ Room n to size (now scratch) × Canon to (nxtAt n (now scratch)) ⌝ }
-    ensures { λ r. ⌜ Split n to (now (scratch .entry)) (now (scratch .exit)) r ⌝ }
-{
-    blank(scratch, n, 9 * n, size);
-    let mut made = false;
-    let mut i = 0;
-    while i < to {
-        let hit = split_one(scratch, n, i, size);
-        i += 1;
-        if hit {
-            made = true;
-        }
-    }
-    made
-}
+ghost use Rattle.scratch.specs.Tests.{Tested};
+ghost use Rattle.splitting.specs.Places.{front, nxtAt, keyAt, jumpAt, Filled, Span, Canon, Room, Ready};
+ghost use Rattle.classes.specs.Values.{rowIn, targetIn, placeIn, outerBy, valuesBy, value, Alike, Sizes, Reads, Given};
+ghost use Rattle.classes.specs.Steps.{First, Fault, Begun, Refined, Doubled, Leaps, Settled};
 
 // The place that stands for the target of row q at an event.
 fn place_of(n: usize, m: usize, cells: &[u16], scratch: &[u16], q: usize, a: usize) -> usize
-    requires { ⌜ (q * m + a < length (now cells)) × (getD (now cells) (q * m + a) 0 < n) × (4 * n ≤ length (now scratch)) ⌝ }
-    ensures { λ r. ⌜ r ≡ getD (front n (now (scratch .entry))) (2 * n + getD (now (cells .entry)) (q * m + a) 0) 0 ⌝ }
+    requires { ⌜ (q * m + a < length (now cells)) × (targetIn m (now cells) q a < n) × (4 * n ≤ length (now scratch)) ⌝ }
+    ensures { λ r. ⌜ r ≡ placeIn n m (now (cells .entry)) (front n (now (scratch .entry))) q a ⌝ }
 {
     let target = rules::wide(cells[q * m + a]);
     rules::wide(scratch[2 * n + target])
@@ -104,15 +40,13 @@ fn same_at(
     m: usize,
     to: usize,
     cells: &[u16],
-    marks: &[u8],
     scratch: &[u16],
     q: usize,
     p: usize,
     a: usize,
 ) -> bool
-    requires { ⌜ Given n (valuesBy top mask n m to (now cells) (now marks) (now scratch)) (now cells) (now scratch) ⌝ }
-    requires { ⌜ Within n (valuesBy top mask n m to (now cells) (now marks) (now scratch)) q × Within n (valuesBy top mask n m to (now cells) (now marks) (now scratch)) p × (a < m) ⌝ }
-    ensures { λ r. ⌜ r ≡ eqb (value (valuesBy top mask n m to (now (cells .entry)) (now (marks .entry)) (now (scratch .entry))) (nxtAt n (now (scratch .entry))) q a) (value (valuesBy top mask n m to (now (cells .entry)) (now (marks .entry)) (now (scratch .entry))) (nxtAt n (now (scratch .entry))) p a) ⌝ }
+    requires { ⌜ (let x = now cells in let s = now scratch in Sizes n m to x s × Reads n m to x s q × Reads n m to x s p × (a < m)) ⌝ }
+    ensures { λ r. ⌜ (let s = now (scratch .entry) in let W = valuesBy top mask n m to (now (cells .entry)) [] s in r ≡ eqb (value W (nxtAt n s) q a) (value W (nxtAt n s) p a)) ⌝ }
 {
     let x = place_of(n, m, cells, scratch, q, a);
     let y = place_of(n, m, cells, scratch, p, a);
@@ -135,9 +69,8 @@ fn first_event(
     q: usize,
     p: usize,
 ) -> usize
-    requires { ⌜ Given n (valuesBy top mask n m to (now cells) (now marks) (now scratch)) (now cells) (now scratch) ⌝ }
-    requires { ⌜ Within n (valuesBy top mask n m to (now cells) (now marks) (now scratch)) q × Within n (valuesBy top mask n m to (now cells) (now marks) (now scratch)) p ⌝ }
-    ensures { λ r. ⌜ First (valuesBy top mask n m to (now (cells .entry)) (now (marks .entry)) (now (scratch .entry))) (nxtAt n (now (scratch .entry))) q p r ⌝ }
+    requires { ⌜ (let x = now cells in let s = now scratch in Sizes n m to x s × Reads n m to x s q × Reads n m to x s p) ⌝ }
+    ensures { λ r. ⌜ (let s = now (scratch .entry) in let W = valuesBy top mask n m to (now (cells .entry)) (now (marks .entry)) s in First W (nxtAt n s) q p r) ⌝ }
 {
     if top {
         if marks::mark(marks, q) != marks::mark(marks, p) {
@@ -146,7 +79,7 @@ fn first_event(
     }
     let mut a = 0;
     while a < m {
-        if !same_at(top, mask, n, m, to, cells, marks, scratch, q, p, a) {
+        if !same_at(top, mask, n, m, to, cells, scratch, q, p, a) {
             return a;
         }
         a += 1;
@@ -166,9 +99,8 @@ fn fault_at(
     scratch: &[u16],
     i: usize,
 ) -> usize
-    requires { ⌜ Given n (valuesBy top mask n m to (now cells) (now marks) (now scratch)) (now cells) (now scratch) ⌝ }
-    requires { ⌜ Canon to (nxtAt n (now scratch)) × (i < to) ⌝ }
-    ensures { λ r. ⌜ First (valuesBy top mask n m to (now (cells .entry)) (now (marks .entry)) (now (scratch .entry))) (nxtAt n (now (scratch .entry))) ((valuesBy top mask n m to (now (cells .entry)) (now (marks .entry)) (now (scratch .entry))) .row i) ((valuesBy top mask n m to (now (cells .entry)) (now (marks .entry)) (now (scratch .entry))) .row (nxtAt n (now (scratch .entry)) i)) r ⌝ }
+    requires { ⌜ (let s = now scratch in let W = valuesBy top mask n m to (now cells) (now marks) s in Given n W (now cells) s × Canon to (nxtAt n s) × (i < to)) ⌝ }
+    ensures { λ r. ⌜ (let s = now (scratch .entry) in let W = valuesBy top mask n m to (now (cells .entry)) (now (marks .entry)) s in First W (nxtAt n s) (W .row i) (W .row (nxtAt n s i)) r) ⌝ }
 {
     let l = rules::wide(scratch[4 * n + i]);
     if l == i {
@@ -199,9 +131,8 @@ fn fault(
     marks: &[u8],
     scratch: &[u16],
 ) -> usize
-    requires { ⌜ Given n (valuesBy top mask n m to (now cells) (now marks) (now scratch)) (now cells) (now scratch) ⌝ }
-    requires { ⌜ Canon to (nxtAt n (now scratch)) ⌝ }
-    ensures { λ r. ⌜ Fault (valuesBy top mask n m to (now (cells .entry)) (now (marks .entry)) (now (scratch .entry))) (nxtAt n (now (scratch .entry))) r ⌝ }
+    requires { ⌜ (let s = now scratch in let W = valuesBy top mask n m to (now cells) (now marks) s in Given n W (now cells) s × Canon to (nxtAt n s)) ⌝ }
+    ensures { λ r. ⌜ (let s = now (scratch .entry) in let W = valuesBy top mask n m to (now (cells .entry)) (now (marks .entry)) s in Fault W (nxtAt n s) r) ⌝ }
 {
     let mut i = 0;
     while i < to {
@@ -216,7 +147,7 @@ fn fault(
 // Keys: the marks.
 fn by_mark(scratch: &mut [u16], n: usize, to: usize, marks: &[u8])
     requires { ⌜ Span n (6 * n) to (now scratch) × (to ≤ n) ⌝ }
-    ensures { λ r. ⌜ Filled n (6 * n) to (λ i. markOf (now (marks .entry)) (getD (front n (now (scratch .entry))) (3 * n + i) 0)) (now (scratch .entry)) (now (scratch .exit)) ⌝ }
+    ensures { λ r. ⌜ (let s = now (scratch .entry) in Filled n (6 * n) to (λ i. markOf (now (marks .entry)) (rowIn n (front n s) i)) s (now (scratch .exit))) ⌝ }
 {
     let mut i = 0;
     while i < to {
@@ -228,20 +159,16 @@ fn by_mark(scratch: &mut [u16], n: usize, to: usize, marks: &[u8])
 
 // Keys or jumps, from cell `at` on: the places that stand for the targets at an event.
 fn by_event(
-    top: bool,
-    mask: u32,
     n: usize,
     m: usize,
     to: usize,
     cells: &[u16],
-    marks: &[u8],
     scratch: &mut [u16],
     a: usize,
     at: usize,
 )
-    requires { ⌜ Given n (valuesBy top mask n m to (now cells) (now marks) (now scratch)) (now cells) (now scratch) ⌝ }
-    requires { ⌜ Span n at to (now scratch) × (a < m) ⌝ }
-    ensures { λ r. ⌜ Filled n at to (λ i. (valuesBy top mask n m to (now (cells .entry)) (now (marks .entry)) (now (scratch .entry))) .to ((valuesBy top mask n m to (now (cells .entry)) (now (marks .entry)) (now (scratch .entry))) .row i) a) (now (scratch .entry)) (now (scratch .exit)) ⌝ }
+    requires { ⌜ (let x = now cells in let s = now scratch in Sizes n m to x s × ((i : ℕ) → i < to → Reads n m to x s (rowIn n (front n s) i)) × Span n at to s × (a < m)) ⌝ }
+    ensures { λ r. ⌜ (let s = now (scratch .entry) in let b = front n s in Filled n at to (λ i. placeIn n m (now (cells .entry)) b (rowIn n b i) a) s (now (scratch .exit))) ⌝ }
 {
     let mut i = 0;
     while i < to {
@@ -255,7 +182,7 @@ fn by_event(
 fn by_jump(scratch: &mut [u16], n: usize, to: usize, from: usize)
     requires { ⌜ Span n (6 * n) to (now scratch) × ((from + to ≤ 6 * n) ⊎ (7 * n ≤ from)) × (from + to ≤ 12 * n) ⌝ }
     requires { ⌜ (to ≤ n) × ((i : ℕ) → i < to → jumpAt n (now scratch) i < to) ⌝ }
-    ensures { λ r. ⌜ Filled n (6 * n) to (λ i. getD (now (scratch .entry)) (from + jumpAt n (now (scratch .entry)) i) 0) (now (scratch .entry)) (now (scratch .exit)) ⌝ }
+    ensures { λ r. ⌜ (let s = now (scratch .entry) in Filled n (6 * n) to (λ i. getD s (from + jumpAt n s i) 0) s (now (scratch .exit))) ⌝ }
 {
     let mut i = 0;
     while i < to {
@@ -267,7 +194,7 @@ fn by_jump(scratch: &mut [u16], n: usize, to: usize, from: usize)
 // Jumps: the keys.
 fn back(scratch: &mut [u16], n: usize, to: usize)
     requires { ⌜ Span n (7 * n) to (now scratch) × (to ≤ n) ⌝ }
-    ensures { λ r. ⌜ Filled n (7 * n) to (keyAt n (now (scratch .entry))) (now (scratch .entry)) (now (scratch .exit)) ⌝ }
+    ensures { λ r. ⌜ (let s = now (scratch .entry) in Filled n (7 * n) to (keyAt n s) s (now (scratch .exit))) ⌝ }
 {
     let mut i = 0;
     while i < to {
@@ -278,59 +205,25 @@ fn back(scratch: &mut [u16], n: usize, to: usize)
 
 // Makes the jump twice as far and splits by it; answers whether that made a leader.
 fn double(scratch: &mut [u16], n: usize, to: usize, size: usize) -> bool
-    requires { ⌜ Room n to size (now scratch) × Canon to (nxtAt n (now scratch)) ⌝ }
-    requires { ⌜ ((i : ℕ) → i < to → jumpAt n (now scratch) i < to) ⌝ }
+    requires { ⌜ Ready n to size (now scratch) × ((i : ℕ) → i < to → jumpAt n (now scratch) i < to) ⌝ }
     ensures { λ r. ⌜ Doubled n to (now (scratch .entry)) (now (scratch .exit)) r ⌝ }
 {
     by_jump(scratch, n, to, 7 * n);
     back(scratch, n, to);
     by_jump(scratch, n, to, 4 * n);
-    split(scratch, n, to, size)
+    splitting::split(scratch, n, to, size)
 }
 
-// Splits by the jump twice, four times, .. as far, while that makes leaders.
-fn splits(
-    top: bool,
-    mask: u32,
-    n: usize,
-    m: usize,
-    to: usize,
-    cells: &[u16],
-    marks: &[u8],
-    scratch: &mut [u16],
-    size: usize,
-    made: bool,
-)
-    requires { ⌜ Begun n (valuesBy top mask n m to (now cells) (now marks) (now scratch)) (now cells) (now scratch) × Jumps n (valuesBy top mask n m to (now cells) (now marks) (now scratch)) (now scratch) × Room n to size (now scratch) ⌝ }
-    ensures { λ r. ⌜ Moved n (valuesBy top mask n m to (now (cells .entry)) (now (marks .entry)) (now (scratch .entry))) (now (scratch .entry)) (now (scratch .exit)) ⌝ }
+// Splits by the jump, and by the jump twice, four times, .. as far, while that makes leaders. A long chain takes so few passes.
+fn leap(scratch: &mut [u16], n: usize, to: usize, size: usize)
+    requires { ⌜ Ready n to size (now scratch) × ((i : ℕ) → i < to → jumpAt n (now scratch) i < to) ⌝ }
+    ensures { λ r. ⌜ Leaps n to (now (scratch .entry)) (now (scratch .exit)) ⌝ }
 {
-    let mut more = made;
+    by_jump(scratch, n, to, 4 * n);
+    let mut more = splitting::split(scratch, n, to, size);
     while more {
         more = double(scratch, n, to, size);
     }
-}
-
-// Splits by an inner event, and by twice, four times, .. that event.
-fn by_inner(
-    top: bool,
-    mask: u32,
-    n: usize,
-    m: usize,
-    to: usize,
-    cells: &[u16],
-    marks: &[u8],
-    scratch: &mut [u16],
-    size: usize,
-    a: usize,
-)
-    requires { ⌜ Begun n (valuesBy top mask n m to (now cells) (now marks) (now scratch)) (now cells) (now scratch) × Room n to size (now scratch) ⌝ }
-    requires { ⌜ (a < m) × (outerBy top mask a ≡ false) ⌝ }
-    ensures { λ r. ⌜ Inner n (valuesBy top mask n m to (now (cells .entry)) (now (marks .entry)) (now (scratch .entry))) a (now (scratch .entry)) (now (scratch .exit)) ⌝ }
-{
-    by_event(top, mask, n, m, to, cells, marks, scratch, a, 7 * n);
-    by_jump(scratch, n, to, 4 * n);
-    let made = split(scratch, n, to, size);
-    splits(top, mask, n, m, to, cells, marks, scratch, size, made);
 }
 
 // At a place that is unlike its leader: splits by that at which they differ.
@@ -346,22 +239,22 @@ fn refine(
     size: usize,
     i: usize,
 )
-    requires { ⌜ Begun n (valuesBy top mask n m to (now cells) (now marks) (now scratch)) (now cells) (now scratch) × Room n to size (now scratch) × (i < to) ⌝ }
-    requires { ⌜ (Alike (valuesBy top mask n m to (now cells) (now marks) (now scratch)) (nxtAt n (now scratch)) ((valuesBy top mask n m to (now cells) (now marks) (now scratch)) .row i) ((valuesBy top mask n m to (now cells) (now marks) (now scratch)) .row (nxtAt n (now scratch) i)) → ⊥) ⌝ }
-    ensures { λ r. ⌜ Refined n (valuesBy top mask n m to (now (cells .entry)) (now (marks .entry)) (now (scratch .entry))) (now (scratch .entry)) (now (scratch .exit)) ⌝ }
+    requires { ⌜ (let s = now scratch in let W = valuesBy top mask n m to (now cells) (now marks) s in Begun n W (now cells) s × Room n to size s × (i < to) × (Alike W (nxtAt n s) (W .row i) (W .row (nxtAt n s i)) → ⊥)) ⌝ }
+    ensures { λ r. ⌜ (let s = now (scratch .entry) in let W = valuesBy top mask n m to (now (cells .entry)) (now (marks .entry)) s in Refined n W s (now (scratch .exit))) ⌝ }
 {
     let e = fault_at(top, mask, n, m, to, cells, marks, scratch, i);
     if e >= m {
         by_mark(scratch, n, to, marks);
-        split(scratch, n, to, size);
+        splitting::split(scratch, n, to, size);
         return;
     }
     if is_outer(top, mask, e) {
-        by_event(top, mask, n, m, to, cells, marks, scratch, e, 6 * n);
-        split(scratch, n, to, size);
+        by_event(n, m, to, cells, scratch, e, 6 * n);
+        splitting::split(scratch, n, to, size);
         return;
     }
-    by_inner(top, mask, n, m, to, cells, marks, scratch, size, e);
+    by_event(n, m, to, cells, scratch, e, 7 * n);
+    leap(scratch, n, to, size);
 }
 
 // Refines until no place is unlike its leader.
@@ -376,8 +269,8 @@ fn mend(
     scratch: &mut [u16],
     size: usize,
 )
-    requires { ⌜ Begun n (valuesBy top mask n m to (now cells) (now marks) (now scratch)) (now cells) (now scratch) × Room n to size (now scratch) ⌝ }
-    ensures { λ r. ⌜ Settled n (valuesBy top mask n m to (now (cells .entry)) (now (marks .entry)) (now (scratch .entry))) (now (scratch .entry)) (now (scratch .exit)) ⌝ }
+    requires { ⌜ (let s = now scratch in let W = valuesBy top mask n m to (now cells) (now marks) s in Begun n W (now cells) s × Room n to size s) ⌝ }
+    ensures { λ r. ⌜ (let s = now (scratch .entry) in let W = valuesBy top mask n m to (now (cells .entry)) (now (marks .entry)) s in Settled n W s (now (scratch .exit))) ⌝ }
 {
     let mut i = fault(top, mask, n, m, to, cells, marks, scratch);
     while i < to {
@@ -401,7 +294,62 @@ fn table_size(n: usize, to: usize) -> usize
     size
 }
 
-// The classes of a level among the rows at hand: the leader of each place, from 4 * n on.
+// Whether the numbers of rows, events and places, and the lent cells, fit together.
+fn sized(n: usize, m: usize, to: usize, cells: &[u16], scratch: &[u16]) -> bool
+    ensures { λ r. ⌜ Tested r (Sizes n m to (now (cells .entry)) (now (scratch .entry))) ⌝ }
+{
+    if 1024 < n {
+        return false;
+    }
+    if scratch.len() < 12 * n {
+        return false;
+    }
+    if n < to {
+        return false;
+    }
+    if 32 < m {
+        return false;
+    }
+    n * m <= cells.len()
+}
+
+// Whether row q and its targets are rows, and what stands for the targets are places at hand.
+fn readable(n: usize, m: usize, to: usize, cells: &[u16], scratch: &[u16], q: usize) -> bool
+    requires { ⌜ Sizes n m to (now cells) (now scratch) ⌝ }
+    ensures { λ r. ⌜ Tested r (Reads n m to (now (cells .entry)) (now (scratch .entry)) q) ⌝ }
+{
+    if n <= q {
+        return false;
+    }
+    let mut a = 0;
+    while a < m {
+        if n <= rules::wide(cells[q * m + a]) {
+            return false;
+        }
+        if to <= place_of(n, m, cells, scratch, q, a) {
+            return false;
+        }
+        a += 1;
+    }
+    true
+}
+
+// Whether that is so of all rows at hand.
+fn all_readable(n: usize, m: usize, to: usize, cells: &[u16], scratch: &[u16]) -> bool
+    requires { ⌜ Sizes n m to (now cells) (now scratch) ⌝ }
+    ensures { λ r. ⌜ (let s = now (scratch .entry) in Tested r ((i : ℕ) → i < to → Reads n m to (now (cells .entry)) s (rowIn n (front n s) i))) ⌝ }
+{
+    let mut i = 0;
+    while i < to {
+        if !readable(n, m, to, cells, scratch, rules::wide(scratch[3 * n + i])) {
+            return false;
+        }
+        i += 1;
+    }
+    true
+}
+
+// The classes of a level among the rows at hand: the leader of each place, from 4 * n on. Where the rows at hand cannot be read it changes nothing.
 pub fn settle(
     top: bool,
     mask: u32,
@@ -412,10 +360,18 @@ pub fn settle(
     marks: &[u8],
     scratch: &mut [u16],
 )
-    requires { ⌜ Given n (valuesBy top mask n m to (now cells) (now marks) (now scratch)) (now cells) (now scratch) × (0 < n) ⌝ }
-    ensures { λ r. ⌜ Settled n (valuesBy top mask n m to (now (cells .entry)) (now (marks .entry)) (now (scratch .entry))) (now (scratch .entry)) (now (scratch .exit)) ⌝ }
+    ensures { λ r. ⌜ (let x = now (cells .entry) in let s = now (scratch .entry) in let t = now (scratch .exit) in let W = valuesBy top mask n m to x (now (marks .entry)) s in (Given n W x s → Settled n W s t) × ((Given n W x s → ⊥) → t ≡ s)) ⌝ }
 {
-    blank(scratch, n, 4 * n, to);
+    if !sized(n, m, to, cells, scratch) {
+        return;
+    }
+    if !all_readable(n, m, to, cells, scratch) {
+        return;
+    }
+    if to == 0 {
+        return;
+    }
+    scratch::clear(scratch, 4 * n, 4 * n + to);
     let size = table_size(n, to);
     mend(top, mask, n, m, to, cells, marks, scratch, size);
 }

@@ -18,11 +18,6 @@ eventsBy mask events = record { count = events; weight = weightBy mask }
 abbrev pub machineBy : ℕ → ℕ → List ℕ → List ℕ → Machine
 machineBy rows events cells marks = machine (tableOf rows events 0 cells marks)
 
--- What a test says of a property.
-pub record Tested (r : Bool) (P : Type 0) : Type 0 where
-  pub holds : r ≡ true → P
-  pub fails : r ≡ false → P → ⊥
-
 -- How many cells are v.
 unfoldable pub occurrences : ℕ → List ℕ → ℕ
 occurrences v [] = 0

@@ -9,8 +9,9 @@ ghost use Rattle.rules.specs.Rules.{tableOf};
 ghost use Rattle.row_starts.specs.RowStarts.{rowStarts};
 ghost use Rattle.tables.specs.Table.{weightBy};
 ghost use Rattle.scratch.specs.Scratch.{pairAt, workable};
+ghost use Rattle.scratch.specs.Tests.{Tested};
 ghost use Rattle.distances.specs.Distances.{distanceCells, measured};
-ghost use Rattle.distances.specs.Search.{eventsBy, machineBy, Tested, Fits, Given, Begun, Visited, RowSwept, Swept, Settled, Ready, Risen, Lowered};
+ghost use Rattle.distances.specs.Search.{eventsBy, machineBy, Fits, Given, Begun, Visited, RowSwept, Swept, Settled, Ready, Risen, Lowered};
 
 // level less w, 0 where that is below.
 fn less(level: u16, w: u16) -> u16

@@ -1,0 +1,4 @@
+pub mod Frames
+pub mod Counts
+pub mod Splitting
+pub mod Turns
