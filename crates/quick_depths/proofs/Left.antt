@@ -11,10 +11,12 @@ use lib.Seq.{getD-set-same, getD-set-other}
 use Rattle.automata.proofs.Runs.{Reach, Way, _then_, less}
 use Rattle.tables.specs.Table.{Table, machine, eventsOf, targetOf, weightBy}
 use Rattle.rules.specs.Rules.{tableOf}
-use Rattle.scratch.specs.Scratch.{cleared}
-use Rattle.quick_depths.specs.Leads.{leadIn, leftAt, seenAt, Space, Known, Marked, Grown, Grows}
+use Rattle.scratch.specs.Scratch.{leadIn, cleared}
+use Rattle.depths.specs.Steps.{Known}
+use Rattle.depths.proofs.Moves.{grown-lead}
+use Rattle.quick_depths.specs.Leads.{leftAt, seenAt, Space, Marked, Grows}
 use Rattle.quick_depths.specs.Rounds.{Wide, From, Seeing, Spread, Fine, Dropped, Whole, SetRow, not-left, set-it, Round}
-use Rattle.quick_depths.proofs.Growth.{marked-none, marked-then, marked-set, grown-lead, grows-none}
+use Rattle.quick_depths.proofs.Growth.{marked-none, marked-then, marked-set, kept-then, kept-lead, grows-none}
 use Rattle.scratch.proofs.Cells.{cleared-length, cleared-before, cleared-behind, cleared-inside}
 
 -- ---- rows that are dropped
@@ -81,9 +83,12 @@ setting-none {s} = record { grows = grows-none s; same = λ k h. refl }
 
 setting-set : {mask n m : ℕ} {cells s t : List ℕ} (q : ℕ) → Space n m cells s → Whole mask n m cells s → Setting mask n m cells s t → q < n → (leftAt n t q ≡ 0 → ⊥) → Setting mask n m cells s (set t q 65535)
 setting-set {mask} {n} {m} {cells} {s} {t} q u whole g hq left = record {
-  grows = λ start marks.
-      grown-lead mask (tableOf n m start cells marks) t q 65535 (omega (arith, g .grows 0 [] .kept .size, u .room)) (omega arith) (inr refl) hq (g .grows start marks)
-      (λ k. less (omega arith) (every whole start marks k n q hq (omega (arith, g .same (4 * n + q) (omega arith)))));
+  grows = record {
+    kept = kept-then (g .grows .kept) (kept-lead t q 65535 hq);
+    grown = λ start marks.
+        grown-lead mask (tableOf n m start cells marks) t q 65535 (omega (arith, g .grows .kept .size, u .room)) (omega arith) (inr refl) (g .grows .grown start marks)
+        (λ k. less (omega arith) (every whole start marks k n q hq (omega (arith, g .same (4 * n + q) (omega arith)))));
+  };
   same = λ k h. getD-set-other t q k 65535 0 (λ e. omega arith) ∙ g .same k h;
 }
 

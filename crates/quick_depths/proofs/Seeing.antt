@@ -11,7 +11,7 @@ use Rattle.automata.proofs.Runs.{Way, event, _then_, less}
 use Rattle.tables.specs.Table.{Table, machine, eventsOf, targetOf, weightBy}
 use Rattle.rules.specs.Rules.{tableOf}
 use Rattle.scratch.proofs.Triangle.{eq-or-ne}
-use Rattle.quick_depths.specs.Leads.{leadIn, leftAt, seenAt, Space}
+use Rattle.quick_depths.specs.Leads.{leftAt, seenAt, Space}
 use Rattle.quick_depths.specs.Rounds.{Wide, Seen, ByEvent, From, Seeing, Spread}
 
 pub wide-of : {n m : ℕ} {cells s : List ℕ} → Space n m cells s → Wide n s

@@ -12,10 +12,10 @@ use Rattle.tables.specs.Lengths.{lead}
 use Rattle.tables.specs.Table.{Table, machine, eventsOf, weightBy}
 use Rattle.tables.proofs.Lengths.{Below, lead-below}
 use Rattle.rules.specs.Rules.{judged, winch, tableChecks}
-use Rattle.scratch.specs.Scratch.{fewCells, lenCell, fine, workableIn}
+use Rattle.scratch.specs.Scratch.{leadIn, fewCells, lenCell, fine, workableIn}
 use Rattle.scratch.proofs.Works.{not-fine, fine-room}
 use Rattle.scratch.proofs.Soundness.{within-shape, within-sound}
-use Rattle.quick_depths.specs.Leads.{leadIn, Space, Found}
+use Rattle.quick_depths.specs.Leads.{Space, Found}
 
 -- The leads are at most as many as there are rows, or endless.
 lead-small : (n : ℕ) (x : Len) → Below (n + 1) x → (lenCell x ≤ n) ⊎ (lenCell x ≡ 65535)

@@ -8,7 +8,8 @@ use lib.ListN.{length, getD, set}
 use Rattle.automata.proofs.Runs.{Way}
 use Rattle.tables.specs.Table.{Table, machine, eventsOf, weightBy}
 use Rattle.rules.specs.Rules.{tableOf}
-use Rattle.quick_depths.specs.Leads.{leadIn, leftAt, seenAt, Marked}
+use Rattle.scratch.specs.Scratch.{leadIn}
+use Rattle.quick_depths.specs.Leads.{leftAt, seenAt, Marked}
 
 -- Room for all regions.
 pub record Wide (n : ℕ) (s : List ℕ) : Type 0 where

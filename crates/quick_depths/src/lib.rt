@@ -5,9 +5,8 @@ ghost use mathlib.Core.List.{List};
 ghost use Prim.Native.Nat.{ℕ, _+_, _*_, _≤_, _<_};
 ghost use lib.ListN.{length, getD};
 ghost use Rattle.rules.specs.Rules.{tableOf};
-ghost use Rattle.scratch.specs.Scratch.{fewCells, workableIn};
-ghost use Rattle.depths.specs.Steps.{further};
-ghost use Rattle.quick_depths.specs.Leads.{leadIn, Given, Space, Marked, Grows, Stepped, Quiet, QuietRow, QuietRows, Settled, Begun, Found};
+ghost use Rattle.scratch.specs.Scratch.{leadIn, fewCells, workableIn};
+ghost use Rattle.quick_depths.specs.Leads.{Given, Space, Marked, Grows, Begun, Found};
 ghost use Rattle.quick_depths.specs.Rounds.{Wide, Seen, ByEvent, Spread, Fine, Dropped, Whole, SetRow, Round};
 
 // The row to which an event leads from row q.
@@ -16,88 +15,6 @@ fn target(n: usize, m: usize, cells: &[u16], q: usize, a: usize) -> usize
     ensures { λ r. ⌜ (r ≡ getD (now (cells .entry)) (q * m + a) 0) × (r < n) ⌝ }
 {
     rules::wide(cells[q * m + a])
-}
-
-// The lead of a row to which an event leads from a row of the given lead. Above the number of rows it is endless.
-fn longer(n: usize, lead: u16, weight: u16) -> u16
-    requires { ⌜ n ≤ 1024 ⌝ }
-    ensures { λ r. ⌜ r ≡ further n lead weight ⌝ }
-{
-    if n < rules::wide(lead) + rules::wide(weight) {
-        return 65535;
-    }
-    lead + weight
-}
-
-// Raises the lead of the target of a row and an event, where a run through them is longer. Answers whether it did.
-fn relax(
-    mask: u32,
-    n: usize,
-    m: usize,
-    cells: &[u16],
-    scratch: &mut [u16],
-    p: usize,
-    a: usize,
-) -> bool
-    requires { ⌜ Space n m (now cells) (now scratch) × (p < n) × (a < m) ⌝ }
-    ensures { λ r. ⌜ Stepped mask n m (now (cells .entry)) (now (scratch .entry)) (now (scratch .exit)) r (λ T. Quiet mask T (now (scratch .entry)) p a) ⌝ }
-{
-    let lead = scratch[p];
-    if lead == 0 {
-        return false;
-    }
-    let r = target(n, m, cells, p, a);
-    let next = longer(n, lead, weights::weight(mask, a as u16));
-    if scratch[r] < next {
-        scratch[r] = next;
-        return true;
-    }
-    false
-}
-
-// The same for every event of a row.
-fn sweep_row(mask: u32, n: usize, m: usize, cells: &[u16], scratch: &mut [u16], p: usize) -> bool
-    requires { ⌜ Space n m (now cells) (now scratch) × (p < n) ⌝ }
-    ensures { λ r. ⌜ Stepped mask n m (now (cells .entry)) (now (scratch .entry)) (now (scratch .exit)) r (λ T. QuietRow mask T (now (scratch .entry)) p) ⌝ }
-{
-    let mut changed = false;
-    let mut a = 0;
-    while a < m {
-        let hit = relax(mask, n, m, cells, scratch, p, a);
-        a += 1;
-        if hit {
-            changed = true;
-        }
-    }
-    changed
-}
-
-// The same for every row.
-fn sweep(mask: u32, n: usize, m: usize, cells: &[u16], scratch: &mut [u16]) -> bool
-    requires { ⌜ Space n m (now cells) (now scratch) ⌝ }
-    ensures { λ r. ⌜ Stepped mask n m (now (cells .entry)) (now (scratch .entry)) (now (scratch .exit)) r (λ T. QuietRows mask T (now (scratch .entry))) ⌝ }
-{
-    let mut changed = false;
-    let mut p = 0;
-    while p < n {
-        let hit = sweep_row(mask, n, m, cells, scratch, p);
-        p += 1;
-        if hit {
-            changed = true;
-        }
-    }
-    changed
-}
-
-// Sweeps until no lead rises.
-fn settle(mask: u32, n: usize, m: usize, cells: &[u16], scratch: &mut [u16])
-    requires { ⌜ Space n m (now cells) (now scratch) ⌝ }
-    ensures { λ _. ⌜ Settled mask n m (now (cells .entry)) (now (scratch .entry)) (now (scratch .exit)) ⌝ }
-{
-    let mut again = true;
-    while again {
-        again = sweep(mask, n, m, cells, scratch);
-    }
 }
 
 // One more, if that fits a cell.
@@ -265,7 +182,7 @@ fn pass(
     ensures { λ r. ⌜ Grows mask n m (now (cells .entry)) (now (scratch .entry)) (now (scratch .exit)) × (r ≤ n) ⌝ }
 {
     let r = target(n, m, cells, p, a);
-    relax(mask, n, m, cells, scratch, p, a);
+    depths::relax(mask, n as u16, m as u16, cells, scratch, p as u16, a as u16);
     settle_edge(mask, n, scratch, p, r, a, count)
 }
 
@@ -622,7 +539,7 @@ fn search(mask: u32, n: usize, m: usize, start: usize, cells: &[u16], scratch: &
     let count = first(n, start, scratch);
     let passed = pass_rows(mask, n, m, cells, scratch, count);
     endless_unless(mask, n, m, cells, scratch, passed, reached);
-    settle(mask, n, m, cells, scratch);
+    depths::settle(mask, n as u16, m as u16, cells, scratch);
     scratch::clear(scratch, 4 * n, 8 * n);
 }
 
