@@ -27,7 +27,7 @@ use Rattle.levels.proofs.Order.{order-distinct, at-row, one-place}
 use Rattle.levels.proofs.Borders.{placed-closed, placed-into}
 use Rattle.levels.proofs.Kept.{kept-few, listed-old, listed-new, listed-length, listed-placed}
 use Rattle.levels.proofs.Sweep.{led-sound}
-use Rattle.classes.specs.Places.{nxtAt}
+use Rattle.splitting.specs.Places.{nxtAt}
 use Rattle.classes.specs.Values.{Values, valuesBy, Given}
 use Rattle.classes.specs.Steps as Classes
 use Rattle.classes.proofs.Reading.{front-read}

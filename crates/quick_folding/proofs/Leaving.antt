@@ -23,7 +23,8 @@ use Rattle.levels.proofs.Order.{at-row, one-place}
 use Rattle.levels.proofs.Borders.{border-needs}
 use Rattle.levels.proofs.Kept.{kept-stays, kept-placed, listed-old}
 use Rattle.levels.proofs.Sweep.{led-sound, labelled-next, new-fold, new-adds, new-skips, led-next, rest-all}
-use Rattle.classes.specs.Places.{nxtAt, Canon}
+use Rattle.splitting.specs.Places.{nxtAt, Canon}
+use Rattle.classes.specs.Values.{Given}
 use Rattle.classes.specs.Steps as Classes
 use Rattle.classes.proofs.Reading.{front-read}
 use Rattle.quick_folding.specs.Parts.{labelAt, valueAt, listAt, seats, seatOf, Appended, Renewable, Renewed, Takable, Taken}
@@ -32,7 +33,8 @@ use Rattle.quick_folding.proofs.Takes.{seats-none, seats-adds, seats-st
 use Rattle.quick_folding.proofs.Entering as In
 
 module _ {T : Table} (mask : ℕ) {k L i j u : ℕ} {s : List ℕ} (v : Fits T k s) (b : Before (eventsOf (weightBy mask) T) (machine T) k L i j u s)
-    {t₁ : List ℕ} (a : Appended (T .rows) u i (j - i) s t₁) {t₂ : List ℕ} (d : Classes.Settled (T .rows) (In.seen mask v b a (eqb L 0)) t₁ t₂) where
+    {t₁ : List ℕ} (a : Appended (T .rows) u i (j - i) s t₁) {t₂ : List ℕ}
+    (e : Given (T .rows) (In.seen mask v b a (eqb L 0)) (T .cells) t₁ → Classes.Settled (T .rows) (In.seen mask v b a (eqb L 0)) t₁ t₂) where
   abbrev n : ℕ
   n = T .rows
 
@@ -41,6 +43,9 @@ module _ {T : Table} (mask : ℕ) {k L i j u : ℕ} {s : List ℕ} (v : Fits T k
 
   abbrev M : Machine
   M = machine T
+
+  d : Classes.Settled n (In.seen mask v b a (eqb L 0)) t₁ t₂
+  d = e (In.given mask v b a)
 
   sound : Sound E M
   sound = In.sound v mask

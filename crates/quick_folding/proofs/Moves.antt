@@ -8,7 +8,7 @@ use lib.ListN.{length, getD, set, length-set}
 use lib.Seq.{getD-set-same, getD-set-other}
 use Rattle.scratch.proofs.Triangle.{eq-or-ne}
 use borrow.Author.Tests.{eq-eqb, ne-eqb}
-use Rattle.classes.specs.Places.{nxtAt}
+use Rattle.splitting.specs.Places.{nxtAt}
 use Rattle.quick_folding.specs.Parts.{labelAt, listAt, valueAt, needCell, foldAt, Appendable, Appended, Valued, Labels}
 
 pub append-none : {n u i : ℕ} (s : List ℕ) → Appended n u i 0 s s

@@ -6,7 +6,7 @@ use mathlib.Core.List.{List}
 use Prim.Native.Nat.{ℕ, zero, suc, _+_, _-_, _*_, _≤_, _<_}
 use lib.Dec.{eqb, ltb}
 use lib.ListN.{length, getD, set}
-use Rattle.classes.specs.Places.{nxtAt, jumpAt, Canon}
+use Rattle.splitting.specs.Places.{nxtAt, jumpAt, Canon}
 
 abbrev pub labelAt : ℕ → List ℕ → ℕ → ℕ
 labelAt n s q = getD s (n + q) 0

@@ -6,7 +6,7 @@ ghost use lib.ListN.{length, getD};
 ghost use Rattle.tables.specs.Table.{weightBy, machine, eventsOf};
 ghost use Rattle.tables.specs.Reduction.{order};
 ghost use Rattle.rules.specs.Rules.{tableOf, offsetOf};
-ghost use Rattle.classes.specs.Places.{nxtAt};
+ghost use Rattle.splitting.specs.Places.{nxtAt};
 ghost use Rattle.levels.specs.Levels.{far as farOf};
 ghost use Rattle.quick_folding.specs.Parts.{valueAt, listAt, needCell, foldAt, Appendable, Appended, Valued, Still, Renewable, Renewed, Seated, Seating, Takable, Taken, Searching, Until, Onward, Labels};
 ghost use Rattle.quick_folding.specs.State.{Fits, Laid, Apart, Before, After, Going, Folded};

@@ -1,4 +1,4 @@
-use Rattle.quick_folding.proofs.Entering.{shape, appendable, bounds, given}
+use Rattle.quick_folding.proofs.Entering.{shape, appendable, bounds}
 use Rattle.quick_folding.proofs.Leaving.{renewable, takable, level-after}
 use native.Mathlib.Omega.{arith}
 use borrow.Author.Needs.{needs}
@@ -18,30 +18,23 @@ add-settle c =
     let b = bounds (a .mask) (p .0) (p .1) in
     omega (arith, b .0, b .1, b .2, shape (p .0) .rows-fit)
 
-settle-requires : tie.Need-settle-requires
-settle-requires c κs =
-    let a = c .before .before .before .before .before .before .before .before .args in
-    let p = c .before .before .before .before .before .before .before .before .pre in
-    let f = given (a .mask) (p .0) (p .1) (c .before .before .before .append .ensures) in
-    (f, omega (arith, shape (p .0) .some-row))
-
 renew-requires : tie.Need-renew-requires
 renew-requires c κs =
     let a = c .before .before .before .before .before .before .before .before .before .before .before .before .args in
     let p = c .before .before .before .before .before .before .before .before .before .before .before .before .pre in
-    renewable (a .mask) (p .0) (p .1) (c .before .before .before .before .before .before .before .append .ensures) (c .before .before .before .settle .ensures)
+    renewable (a .mask) (p .0) (p .1) (c .before .before .before .before .before .before .before .append .ensures) (c .before .before .before .settle .ensures .0)
 
 take-new-requires : tie.Need-take-new-requires
 take-new-requires c κs =
     let a = c .before .before .before .before .before .before .before .before .before .before .before .before .before .before .before .before .args in
     let p = c .before .before .before .before .before .before .before .before .before .before .before .before .before .before .before .before .pre in
-    takable (a .mask) (p .0) (p .1) (c .before .before .before .before .before .before .before .before .before .before .before .append .ensures) (c .before .before .before .before .before .before .before .settle .ensures) (c .before .before .before .renew .ensures)
+    takable (a .mask) (p .0) (p .1) (c .before .before .before .before .before .before .before .before .before .before .before .append .ensures) (c .before .before .before .before .before .before .before .settle .ensures .0) (c .before .before .before .renew .ensures)
 
 returns : tie.Need-returns
 returns c =
     let a = c .before .before .before .before .before .before .before .before .before .before .before .before .before .before .before .before .before .before .before .args in
     let p = c .before .before .before .before .before .before .before .before .before .before .before .before .before .before .before .before .before .before .before .pre in
-    level-after (a .mask) (p .0) (p .1) (c .before .before .before .before .before .before .before .before .before .before .before .before .before .before .append .ensures) (c .before .before .before .before .before .before .before .before .before .before .settle .ensures) (c .before .before .before .before .before .before .renew .ensures) (c .before .before .take-new .ensures)
+    level-after (a .mask) (p .0) (p .1) (c .before .before .before .before .before .before .before .before .before .before .before .before .before .before .append .ensures) (c .before .before .before .before .before .before .before .before .before .before .settle .ensures .0) (c .before .before .before .before .before .before .renew .ensures) (c .before .before .take-new .ensures)
 
 pub any-level-spec : {M : Type 1} → statement M
 any-level-spec =
@@ -50,7 +43,7 @@ any-level-spec =
     (λ c. search needs)
     append-requires
     add-settle
-    settle-requires
+    (λ c κs. search needs)
     renew-requires
     take-new-requires
     (λ c. search needs)

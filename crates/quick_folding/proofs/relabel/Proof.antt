@@ -1,6 +1,6 @@
 use Prim.Native.Nat.{ℕ, _-_, _≤_}
 use mathlib.Core.Path.{_≡_, subst}
-use Rattle.classes.specs.Places.{nxtAt}
+use Rattle.splitting.specs.Places.{nxtAt}
 use Rattle.quick_folding.specs.Parts.{valueAt, Valued}
 use Rattle.quick_folding.proofs.Moves.{valued-none, valued-next, relabel-read}
 use native.Mathlib.Omega.{arith}

@@ -1,7 +1,7 @@
 use mathlib.Core.Path.{refl, sym, ap, _∙_}
 use Prim.Native.Nat.{_+_, _*_}
 use lib.ListN.{length-set}
-use Rattle.classes.specs.Places.{jumpAt}
+use Rattle.splitting.specs.Places.{jumpAt}
 use Rattle.quick_folding.specs.Parts.{leading, following, joining}
 use native.Mathlib.Omega.{arith}
 use borrow.Author.Needs.{needs}
