@@ -9,7 +9,7 @@ use native.Mathlib.Decide.{decLt}
 use native.Mathlib.Numerals.{add-one}
 use lib.Dec.{eqb}
 use lib.ListN.{length, getD, length-append, List·getD-append}
-use lib.Seq.{getD-drop, getD-append-seam}
+use lib.Seq.{getD-append-seam}
 use Rattle.automata.proofs.Runs.{near-sym, near-cast}
 use Rattle.automata.proofs.Tests.{either}
 use Rattle.automata.specs.Runs.{Events, Machine, Sound, Light}
@@ -29,6 +29,7 @@ use Rattle.classes.specs.Steps as Classes
 use Rattle.classes.proofs.Reading.{front-read}
 use Rattle.quick_folding.specs.Parts.{labelAt, valueAt, listAt, seats, seatOf, Appended, Renewable, Renewed, Takable, Taken}
 use Rattle.quick_folding.specs.State.{Fits, Before, After}
+use Rattle.quick_folding.proofs.Moves.{same-behind}
 use Rattle.quick_folding.proofs.Takes.{seats-none, seats-adds, seats-stays, seats-le, seats-low, seat-old, seat-new, leader-new, seat-in}
 use Rattle.quick_folding.proofs.Entering as In
 
@@ -59,12 +60,6 @@ module _ {T : Table} (mask : ℕ) {k L i j u : ℕ} {s : List ℕ} (v : Fits T k
   -- ---- behind `settle`
   same-front : (x : ℕ) → x < 4 * n → getD t₂ x 0 ≡ getD t₁ x 0
   same-front x h = sym (front-read n t₂ x h) ∙ ap (λ (l : List ℕ). getD l x 0) (d .frame .before) ∙ front-read n t₁ x h
-
-  same-behind : (x : ℕ) → 12 * n ≤ x → getD t₂ x 0 ≡ getD t₁ x 0
-  same-behind x h =
-      let e : 12 * n + (x - 12 * n) ≡ x = omega arith in
-      ap (λ (y : ℕ). getD t₂ y 0) (sym e) ∙ sym (getD-drop (12 * n) t₂ (x - 12 * n) 0)
-      ∙ ap (λ (l : List ℕ). getD l (x - 12 * n) 0) (d .frame .behind) ∙ getD-drop (12 * n) t₁ (x - 12 * n) 0 ∙ ap (λ (y : ℕ). getD t₁ y 0) e
 
   row₂ : (c : ℕ) → c < u + (j - i) → listAt n t₂ c ≡ getD (listed E M k i j) c 0
   row₂ c h = same-front (3 * n + c) (omega (arith, bounds .0, bounds .1, bounds .2)) ∙ In.row-listed mask v b a c h
@@ -326,7 +321,7 @@ module _ {T : Table} (mask : ℕ) {k L i j u : ℕ} {s : List ℕ} (v : Fits T k
                   size = g .size ∙ size₃;
                   leads = leads-same;
                   behind = λ x h.
-                      g .behind x (omega arith) ∙ w .above x (omega arith) ∙ same-behind x h
+                      g .behind x (omega arith) ∙ w .above x (omega arith) ∙ same-behind (12 * n) t₂ t₁ (d .frame .behind) x h
                       ∙ a .behind x (omega (arith, bounds .0, bounds .1, bounds .2));
                 };
             swept =

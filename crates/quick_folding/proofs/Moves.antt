@@ -1,15 +1,21 @@
 -- Rows moved down the list, and values written one by one.
-use mathlib.Core.Path.{_≡_, refl, sym, ap, _∙_}
+use mathlib.Core.Path.{_≡_, refl, sym, ap, subst, _∙_}
 use mathlib.Core.List.{List}
 use mathlib.Core.Logic.{⊎-elim}
 use Prim.Native.Nat.{ℕ, suc, _+_, _-_, _*_, _≤_, _<_}
 use native.Mathlib.Omega.{arith}
-use lib.ListN.{length, getD, set, length-set}
-use lib.Seq.{getD-set-same, getD-set-other}
+use lib.ListN.{length, getD, drop, set, length-set}
+use lib.Seq.{getD-drop, getD-set-same, getD-set-other}
 use Rattle.scratch.proofs.Triangle.{eq-or-ne}
 use borrow.Author.Tests.{eq-eqb, ne-eqb}
 use Rattle.splitting.specs.Places.{nxtAt}
 use Rattle.quick_folding.specs.Parts.{labelAt, listAt, valueAt, needCell, foldAt, Appendable, Appended, Valued, Labels}
+
+-- A cell behind those that may have changed.
+pub same-behind : (k : ℕ) (t s : List ℕ) → drop k t ≡ drop k s → (i : ℕ) → k ≤ i → getD t i 0 ≡ getD s i 0
+same-behind k t s e i h =
+    let g : k + (i - k) ≡ i = omega arith in
+    subst (λ (x : ℕ). getD t x 0 ≡ getD s x 0) g (sym (getD-drop k t (i - k) 0) ∙ ap (λ (l : List ℕ). getD l (i - k) 0) e ∙ getD-drop k s (i - k) 0)
 
 pub append-none : {n u i : ℕ} (s : List ℕ) → Appended n u i 0 s s
 append-none s =

@@ -6,6 +6,7 @@ use mathlib.Core.List.{List}
 use Prim.Native.Nat.{ℕ, zero, suc, _+_, _-_, _*_, _≤_, _<_}
 use lib.Dec.{eqb, ltb}
 use lib.ListN.{length, getD, set}
+use Rattle.scratch.specs.Scratch.{leadIn}
 use Rattle.splitting.specs.Places.{nxtAt, jumpAt, Canon}
 
 abbrev pub labelAt : ℕ → List ℕ → ℕ → ℕ
@@ -23,7 +24,7 @@ needCell k c = cond (eqb c 65535) 0 (suc k - c)
 
 -- The row at the label of row q; 0 where it has no lead.
 unfoldable pub foldAt : ℕ → List ℕ → ℕ → ℕ
-foldAt n s q = cond (eqb (getD s q 0) 0) 0 (listAt n s (labelAt n s q))
+foldAt n s q = cond (eqb (leadIn s q) 0) 0 (listAt n s (labelAt n s q))
 
 -- ---- rows that come in
 
@@ -84,7 +85,7 @@ pub record Renewed (n u : ℕ) (s t : List ℕ) (r : Bool) : Type 0 where
 pub record Labels (n : ℕ) (s : List ℕ) : Type 0 where
   pub few : n ≤ 1024
   pub room : 12 * n ≤ length s
-  pub inside : (q : ℕ) → q < n → (getD s q 0 ≡ 0 → ⊥) → labelAt n s q < n
+  pub inside : (q : ℕ) → q < n → (leadIn s q ≡ 0 → ⊥) → labelAt n s q < n
 
 -- ---- new rows that are kept or fold
 
@@ -151,8 +152,8 @@ pub record Searching (n k i count : ℕ) (s : List ℕ) : Type 0 where
 pub record Until (n k i count level : ℕ) (s : List ℕ) (r : ℕ) : Type 0 where
   pub from : i ≤ r
   pub within : r ≤ count
-  pub low : (x : ℕ) → i ≤ x → x < r → needCell k (getD s (listAt n s x) 0) ≤ level
-  pub high : r < count → level < needCell k (getD s (listAt n s r) 0)
+  pub low : (x : ℕ) → i ≤ x → x < r → needCell k (leadIn s (listAt n s x)) ≤ level
+  pub high : r < count → level < needCell k (leadIn s (listAt n s r))
 
 -- There is a row at place i, and a level above this one.
 pub record Onward (n k i level : ℕ) (s : List ℕ) : Type 0 where

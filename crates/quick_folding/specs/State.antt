@@ -8,7 +8,7 @@ use Rattle.automata.specs.Runs.{Events, Machine}
 use Rattle.tables.specs.Lengths.{lead, reached}
 use Rattle.tables.specs.Table.{Table, offset}
 use Rattle.tables.specs.Reduction.{order, fold}
-use Rattle.scratch.specs.Scratch.{lenCell, fewCells, workableIn}
+use Rattle.scratch.specs.Scratch.{leadIn, lenCell, fewCells, workableIn}
 use Rattle.levels.specs.Levels.{rowAt}
 use Rattle.levels.specs.Sweep.{Placed, Rests, keptTo, Border, Led, Labelled}
 use Rattle.quick_folding.specs.Parts.{labelAt, valueAt, listAt}
@@ -27,7 +27,7 @@ pub record Apart (n : ℕ) (s t : List ℕ) : Type 0 where
 module _ (E : Events) (M : Machine) where
   -- What stands in front: the leads, and the order from place i on.
   pub record Laid (i : ℕ) (s : List ℕ) : Type 0 where
-    pub leads : (q : ℕ) → q < M .rows → getD s q 0 ≡ lenCell (lead E M q)
+    pub leads : (q : ℕ) → q < M .rows → leadIn s q ≡ lenCell (lead E M q)
     pub order-from : (x : ℕ) → i ≤ x → x < length (order E M) → listAt (M .rows) s x ≡ rowAt E M x
 
   module _ (k : ℕ) where

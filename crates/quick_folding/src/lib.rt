@@ -1,11 +1,13 @@
 // The rows into which rows fold, without distances: level by level the rows that need a level join those before them, and fold into the first row of their class.
 ghost use mathlib.Core.Path.{_≡_};
 ghost use mathlib.Core.Bool.{cond, true, false};
-ghost use Prim.Native.Nat.{ℕ, _+_, _*_, _≤_, _<_};
+ghost use Prim.Native.Nat.{ℕ, _+_, _≤_, _<_};
 ghost use lib.ListN.{length, getD};
 ghost use Rattle.tables.specs.Table.{weightBy, machine, eventsOf};
 ghost use Rattle.tables.specs.Reduction.{order};
 ghost use Rattle.rules.specs.Rules.{tableOf, offsetOf};
+ghost use Rattle.scratch.specs.Scratch.{leadIn, fewCells, workableIn};
+ghost use Rattle.scratch.specs.Folds.{Folds};
 ghost use Rattle.splitting.specs.Places.{nxtAt};
 ghost use Rattle.levels.specs.Levels.{far as farOf};
 ghost use Rattle.quick_folding.specs.Parts.{valueAt, listAt, needCell, foldAt, Appendable, Appended, Valued, Still, Renewable, Renewed, Seated, Seating, Takable, Taken, Searching, Until, Onward, Labels};
@@ -106,7 +108,7 @@ fn take_new(scratch: &mut [u16], n: usize, u: usize, more: usize) -> usize
 // The level that row q needs.
 fn need(scratch: &[u16], k: usize, q: usize) -> usize
     requires { ⌜ (q < length (now scratch)) × (k ≤ 65535) ⌝ }
-    ensures { λ r. ⌜ r ≡ needCell k (getD (now (scratch .entry)) q 0) ⌝ }
+    ensures { λ r. ⌜ r ≡ needCell k (leadIn (now (scratch .entry)) q) ⌝ }
 {
     let lead = rules::wide(scratch[q]);
     if lead == 65535 {
@@ -136,7 +138,7 @@ fn until(scratch: &[u16], n: usize, k: usize, i: usize, count: usize, level: usi
 // The level after this one: at rest the one that the next row needs, else one more.
 fn next(scratch: &[u16], n: usize, k: usize, i: usize, level: usize, rest: bool) -> usize
     requires { ⌜ Onward n k i level (now scratch) ⌝ }
-    ensures { λ r. ⌜ (let s = now (scratch .entry) in r ≡ cond rest (needCell k (getD s (listAt n s i) 0)) (level + 1)) ⌝ }
+    ensures { λ r. ⌜ (let s = now (scratch .entry) in r ≡ cond rest (needCell k (leadIn s (listAt n s i))) (level + 1)) ⌝ }
 {
     if rest {
         return need(scratch, k, rules::wide(scratch[3 * n + i]));
@@ -319,4 +321,33 @@ fn name_folds(scratch: &mut [u16], n: usize)
         scratch[2 * n + q] = fold_of(scratch, n, q);
         q += 1;
     }
+}
+
+// Into which row each row of a table folds, at an offset and with the weights of events by a mask; answers whether the table is valid and there is room.
+pub fn fold_rows(
+    offset: rules::Offset,
+    mask: u32,
+    rows: usize,
+    events: usize,
+    start: usize,
+    cells: &[u16],
+    marks: &[u8],
+    scratch: &mut [u16],
+) -> bool
+    ensures { λ r. ⌜ (let T = tableOf rows events start (now (cells .entry)) (now (marks .entry)) in let E = eventsOf (weightBy mask) T in
+        let s = now (scratch .entry) in let t = now (scratch .exit) in
+        (r ≡ workableIn fewCells T (length s))
+        × (r ≡ true → Folds E (machine T) (offsetOf offset) 0 t)
+        × (r ≡ false → t ≡ s)
+        × (length t ≡ length s)
+        × ((i : ℕ) → fewCells rows ≤ i → getD t i 0 ≡ getD s i 0)) ⌝ }
+{
+    if !quick_depths::depths(mask, rows, events, start, cells, marks, scratch) {
+        return false;
+    }
+    let count = buckets::order(scratch, rows);
+    let k = far(offset, rows);
+    fold_all(k, mask, rows, events, start, cells, marks, scratch, count);
+    name_folds(scratch, rows);
+    true
 }
