@@ -11,7 +11,7 @@ use Rattle.automata.proofs.Runs.{Reach, less}
 use Rattle.tables.specs.Lengths.{lead, reached, depth}
 use Rattle.tables.specs.Table.{Table, machine, eventsOf, targetOf, weightBy}
 use Rattle.tables.proofs.Lengths.{Below, reached-is, reached-found, depth-is, depth-one, depth-below, lead-unreached, lead-reached, lead-endless}
-use Rattle.scratch.specs.Scratch.{lenCell, leadAt}
+use Rattle.scratch.specs.Scratch.{lenCell, leadIn}
 use Rattle.depths.specs.Steps.{Known, QuietRows}
 use Rattle.depths.proofs.Moves.{further-least}
 use Rattle.tables.proofs.Counted.{mask-light}
@@ -28,7 +28,7 @@ module _ (mask : ℕ) (T : Table) (s : List ℕ) (fit : T .rows ≤ 1024) (v : S
   M = machine T
 
   abbrev cell : ℕ → ℕ
-  cell = leadAt s n
+  cell = leadIn s
 
   z : Light E
   z = mask-light mask T

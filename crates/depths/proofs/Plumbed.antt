@@ -12,7 +12,7 @@ use Rattle.tables.specs.Lists.{over}
 use Rattle.tables.specs.Lengths.{lead}
 use Rattle.tables.specs.Table.{Table, machine, eventsOf, weightBy}
 use Rattle.tables.proofs.Lists.{tabulate-length, tabulate-at}
-use Rattle.tables.proofs.Over.{over-length, over-inside, take-before-over, drop-over}
+use Rattle.tables.proofs.Over.{over-length, over-inside, take-before-over, drop-over, rest, withRest, rest-over}
 use Rattle.scratch.specs.Scratch.{triangle, leadsAt, lenCell, workable}
 use Rattle.scratch.proofs.Works.{workable-fine}
 use Rattle.depths.specs.Depths.{leadCells, plumbed}
@@ -40,6 +40,10 @@ module _ (mask : ℕ) (T : Table) (s : List ℕ) where
   plumbed-done {r} e t g =
       let f : workable T (length s) ≡ true = sym e ∙ not-false r t in
       (sym f, g ∙ sym (plumbed-over f))
+
+  -- The search is lent the scratch from the leads on, and leaves b there.
+  pub plumbed-lent : {at : ℕ} {b : List ℕ} → at ≡ leadsAt (T .rows) → b ≡ over (rest s at) 0 leads → withRest s at b ≡ over s (leadsAt (T .rows)) leads
+  plumbed-lent {at} place e = ap (withRest s at) e ∙ rest-over s at leads ∙ ap (λ (k : ℕ). over s k leads) place
 
   leads-length : length leads ≡ T .rows
   unfolding leadCells

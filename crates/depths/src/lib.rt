@@ -1,18 +1,11 @@
 // The depths of the rows of a table: the longest runs from the start, kept in scratch as leads.
 ghost use mathlib.Core.Path.{_≡_};
-ghost use Prim.Native.Nat.{_+_, _<_};
+ghost use Prim.Native.Nat.{_<_};
 ghost use lib.ListN.{length};
 ghost use Rattle.rules.specs.Rules.{tableOf};
-ghost use Rattle.scratch.specs.Scratch.{leadsAt, workable};
+ghost use Rattle.scratch.specs.Scratch.{workable};
 ghost use Rattle.depths.specs.Depths.{plumbed};
-ghost use Rattle.depths.specs.Steps.{further, Workspace, Stepped, Quiet, QuietRow, QuietRows, Settled, Searched};
-
-// Where the lead of a row stands.
-fn lead_at(rows: u16, row: u16) -> usize
-    ensures { λ r. ⌜ r ≡ leadsAt rows + row ⌝ }
-{
-    scratch::leads_at(rows) + rules::wide(row)
-}
+ghost use Rattle.depths.specs.Steps.{further, Workspace, Risen, Raised, Stepped, Quiet, QuietRow, QuietRows, Settled, Searched};
 
 // The lead of a row to which an event leads from a row of the given lead. Above the number of rows it is endless.
 fn longer(rows: u16, lead: u16, weight: u16) -> u16
@@ -24,8 +17,22 @@ fn longer(rows: u16, lead: u16, weight: u16) -> u16
     lead + weight
 }
 
-// Raises the lead of the target of a row and an event, where a run through them is longer. Answers whether it did.
-fn relax(
+// Raises a cell to x where it is lower, and answers whether it did. Beyond the last it does nothing.
+fn raise(cells: &mut [u16], at: usize, x: u16) -> bool
+    ensures { λ r. ⌜ Raised at x (now (cells .entry)) (now (cells .exit)) r ⌝ }
+{
+    if cells.len() <= at {
+        return false;
+    }
+    if x <= cells[at] {
+        return false;
+    }
+    cells[at] = x;
+    true
+}
+
+// Raises the lead of the target of a row and an event, where a run through them is longer. Answers whether it did. Scratch begins with the leads, here and below.
+pub fn relax(
     mask: u32,
     rows: u16,
     events: u16,
@@ -34,20 +41,17 @@ fn relax(
     row: u16,
     event: u16,
 ) -> bool
-    requires { ⌜ Workspace rows events (now cells) (now scratch) × (row < rows) × (event < events) ⌝ }
-    ensures { λ r. ⌜ Stepped mask rows events (now (cells .entry)) (now (scratch .entry)) (now (scratch .exit)) r (λ T. Quiet mask T (now (scratch .entry)) row event) ⌝ }
+    ensures { λ r. ⌜ (let c = now (cells .entry) in let s = now (scratch .entry) in let t = now (scratch .exit) in
+        Risen s t r
+        × (Workspace rows events c s → row < rows → event < events → Stepped mask rows events c s t r (λ T. Quiet mask T s row event))) ⌝ }
 {
-    let lead = scratch::cell(scratch, lead_at(rows, row));
+    let lead = scratch::cell(scratch, rules::wide(row));
     if lead == 0 {
         return false;
     }
-    let at = lead_at(rows, scratch::target(cells, events, row, event));
+    let target = scratch::target(cells, events, row, event);
     let next = longer(rows, lead, weights::weight(mask, event));
-    if scratch::cell(scratch, at) < next {
-        scratch::put(scratch, at, next);
-        return true;
-    }
-    false
+    raise(scratch, rules::wide(target), next)
 }
 
 // The same for every event of a row.
@@ -59,8 +63,9 @@ fn sweep_row(
     scratch: &mut [u16],
     row: u16,
 ) -> bool
-    requires { ⌜ Workspace rows events (now cells) (now scratch) × (row < rows) ⌝ }
-    ensures { λ r. ⌜ Stepped mask rows events (now (cells .entry)) (now (scratch .entry)) (now (scratch .exit)) r (λ T. QuietRow mask T (now (scratch .entry)) row) ⌝ }
+    ensures { λ r. ⌜ (let c = now (cells .entry) in let s = now (scratch .entry) in let t = now (scratch .exit) in
+        Risen s t r
+        × (Workspace rows events c s → row < rows → Stepped mask rows events c s t r (λ T. QuietRow mask T s row))) ⌝ }
 {
     let mut changed = false;
     let mut event = 0;
@@ -76,8 +81,9 @@ fn sweep_row(
 
 // The same for every row.
 fn sweep(mask: u32, rows: u16, events: u16, cells: &[u16], scratch: &mut [u16]) -> bool
-    requires { ⌜ Workspace rows events (now cells) (now scratch) ⌝ }
-    ensures { λ r. ⌜ Stepped mask rows events (now (cells .entry)) (now (scratch .entry)) (now (scratch .exit)) r (λ T. QuietRows mask T (now (scratch .entry))) ⌝ }
+    ensures { λ r. ⌜ (let c = now (cells .entry) in let s = now (scratch .entry) in let t = now (scratch .exit) in
+        Risen s t r
+        × (Workspace rows events c s → Stepped mask rows events c s t r (λ T. QuietRows mask T s))) ⌝ }
 {
     let mut changed = false;
     let mut row = 0;
@@ -92,9 +98,9 @@ fn sweep(mask: u32, rows: u16, events: u16, cells: &[u16], scratch: &mut [u16]) 
 }
 
 // Sweeps until no lead rises.
-fn settle(mask: u32, rows: u16, events: u16, cells: &[u16], scratch: &mut [u16])
-    requires { ⌜ Workspace rows events (now cells) (now scratch) ⌝ }
-    ensures { λ _. ⌜ Settled mask rows events (now (cells .entry)) (now (scratch .entry)) (now (scratch .exit)) ⌝ }
+pub fn settle(mask: u32, rows: u16, events: u16, cells: &[u16], scratch: &mut [u16])
+    ensures { λ _. ⌜ (let c = now (cells .entry) in let s = now (scratch .entry) in
+        Workspace rows events c s → Settled mask rows events c s (now (scratch .exit))) ⌝ }
 {
     let mut again = true;
     while again {
@@ -107,8 +113,8 @@ fn search(mask: u32, rows: u16, events: u16, start: u16, cells: &[u16], scratch:
     requires { ⌜ Workspace rows events (now cells) (now scratch) × (start < rows) ⌝ }
     ensures { λ _. ⌜ Searched mask rows events start (now (cells .entry)) (now (scratch .entry)) (now (scratch .exit)) ⌝ }
 {
-    scratch::clear(scratch, lead_at(rows, 0), lead_at(rows, rows));
-    scratch::put(scratch, lead_at(rows, start), 1);
+    scratch::clear(scratch, 0, rules::wide(rows));
+    scratch::put(scratch, rules::wide(start), 1);
     settle(mask, rows, events, cells, scratch);
 }
 
@@ -129,13 +135,14 @@ pub fn depths(
     if !scratch::workable(rows, events, start, cells, marks, scratch.len()) {
         return false;
     }
+    let at = scratch::leads_at(rows as u16);
     search(
         mask,
         rows as u16,
         events as u16,
         start as u16,
         cells,
-        scratch,
+        &mut scratch[at..],
     );
     true
 }

@@ -1,4 +1,4 @@
--- Laws of the lists of rows that the folding finds: those that pass a test, the first that does, those that are kept.
+-- Laws of the lists of rows that the folding finds: the first that passes a test, those that are kept.
 use mathlib.Core.Path.{_≡_, refl, sym, ap, _∙_, subst}
 use mathlib.Core.Bool.{Bool, true, false, cond}
 use mathlib.Core.List.{List, [], _∷_, _++_, append-nil}
@@ -8,68 +8,12 @@ use native.Mathlib.Omega.{arith}
 use lib.ListN.{length, getD, length-append, List·getD-eq-default}
 use Rattle.automata.proofs.Tests.{clash, not-true}
 use Rattle.automata.proofs.Lists.{Mem}
-use Rattle.tables.specs.Lists.{filter, some, first, position, sift}
+use Rattle.tables.specs.Lists.{some, first, position, sift}
 use Rattle.tables.proofs.Lists.{read-same, at-mem, mem-cases, some-has, has-some, position-in, position-passes}
 use Rattle.folding.specs.Found.{added}
 
--- ---- those that pass a test
-
--- 1 if the test is passed
-abbrev pub one : Bool → ℕ
-one b = cond b 1 0
-
-module _ (f : ℕ → Bool) where
-  filter-cons : (x : ℕ) (l : List ℕ) → filter f (x ∷ l) ≡ cond (f x) (x ∷ []) [] ++ filter f l
-  unfolding filter
-  filter-cons x l = pick (f x)
-    where
-      pick : (b : Bool) → (elim b [ true ↦ x ∷ filter f l | false ↦ filter f l ]) ≡ cond b (x ∷ []) [] ++ filter f l
-      pick true = refl
-      pick false = refl
-
-  pub filter-one : (x : ℕ) → filter f (x ∷ []) ≡ cond (f x) (x ∷ []) []
-  unfolding filter
-  filter-one x = filter-cons x [] ∙ append-nil (cond (f x) (x ∷ []) [])
-
-  filter-length : (x : ℕ) (l : List ℕ) → length (filter f (x ∷ l)) ≡ one (f x) + length (filter f l)
-  filter-length x l = ap length (filter-cons x l) ∙ pick (f x)
-    where
-      pick : (b : Bool) → length (cond b (x ∷ []) [] ++ filter f l) ≡ one b + length (filter f l)
-      pick true = omega arith
-      pick false = omega arith
-
-  pub filter-append : (l m : List ℕ) → filter f (l ++ m) ≡ filter f l ++ filter f m
-  unfolding filter
-  filter-append [] m = refl
-  filter-append (x ∷ l) m = pick (f x) (filter-append l m)
-    where
-      pick : (b : Bool) → filter f (l ++ m) ≡ filter f l ++ filter f m
-          → (elim b [ true ↦ x ∷ filter f (l ++ m) | false ↦ filter f (l ++ m) ]) ≡ (elim b [ true ↦ x ∷ filter f l | false ↦ filter f l ]) ++ filter f m
-      pick true ih = ap (λ (k : List ℕ). x ∷ k) ih
-      pick false ih = ih
-
-  pub filter-few : (l : List ℕ) → length (filter f l) ≤ length l
-  unfolding filter
-  filter-few [] = omega arith
-  filter-few (x ∷ l) = omega (arith, filter-length x l, pick (f x), filter-few l)
-    where
-      pick : (b : Bool) → one b ≤ 1
-      pick true = omega arith
-      pick false = omega arith
-
--- Two tests that exclude one another, and a third that is passed where one of them is.
-pub filter-sum : (f g h : ℕ → Bool) → ((x : ℕ) → one (f x) + one (g x) ≤ one (h x)) → (l : List ℕ) → length (filter f l) + length (filter g l) ≤ length (filter h l)
-unfolding filter
-filter-sum f g h ok [] = omega arith
-filter-sum f g h ok (x ∷ l) = omega (arith, filter-length f x l, filter-length g x l, filter-length h x l, ok x, filter-sum f g h ok l)
-
 -- ---- two tests that the members pass alike
 module _ (f g : ℕ → Bool) where
-  pub filter-same : (l : List ℕ) → ((x : ℕ) → Mem x l → f x ≡ g x) → filter f l ≡ filter g l
-  unfolding filter
-  filter-same [] h = refl
-  filter-same (x ∷ l) h = filter-cons f x l ∙ rw (h x (inl refl), filter-same l (λ y m. h y (inr m))) (sym (filter-cons g x l))
-
   pub some-same : (l : List ℕ) → ((x : ℕ) → Mem x l → f x ≡ g x) → some f l ≡ some g l
   unfolding some
   some-same [] h = refl

@@ -5,9 +5,9 @@ use Prim.Native.Nat.{ℕ, _+_, _-_, _≤_}
 use native.Mathlib.Omega.{arith}
 use borrow.Author.Tests.{eq-eqb, ne-eqb}
 use lib.ListN.{getD}
-use Rattle.automata.specs.Runs.{Events, Machine, Len, len, endless}
-use Rattle.tables.specs.Lengths.{beside, only, sink, lead, oneLess}
-use Rattle.tables.proofs.Lengths.{Below, distance-below}
+use Rattle.automata.specs.Runs.{Len, len, endless}
+use Rattle.tables.specs.Lengths.{oneLess}
+use Rattle.tables.proofs.Lengths.{Below}
 use Rattle.scratch.specs.Scratch.{leadsAt, leadAt, lenCell}
 use Rattle.lengths.specs.Lengths.{lenOf}
 
@@ -21,10 +21,6 @@ cell-finite x h = rw (ne-eqb x 65535 h)
 pub len-of-cell : (n : ℕ) → n ≤ 65535 → (x : Len) → Below n x → lenOf (lenCell x) ≡ x
 len-of-cell n h (len L) b = cell-finite L (λ e. omega arith)
 len-of-cell n h endless b = cell-endless 65535 (omega arith)
-
-pub lead-below : (E : Events) (M : Machine) (q : ℕ) → Below (M .rows + 1) (lead E M q)
-unfolding lead
-lead-below E M q = distance-below E (beside (only M q) sink) (M .start) (M .rows)
 
 -- A lead less one.
 pub less-finite : (x : ℕ) → x ≤ 65535 → (x ≡ 65535 → ⊥) → lenOf (x - 1) ≡ oneLess (lenOf x)

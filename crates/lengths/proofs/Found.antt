@@ -10,7 +10,7 @@ use lib.Seq.{getD-take, getD-drop}
 use Rattle.automata.specs.Runs.{Events, Machine}
 use Rattle.tables.specs.Lengths.{distance, lead, oneLess, depth}
 use Rattle.tables.specs.Table.{Table, machine, eventsOf, weightBy}
-use Rattle.tables.proofs.Lengths.{distance-below}
+use Rattle.tables.proofs.Lengths.{distance-below, lead-below}
 use Rattle.scratch.specs.Scratch.{triangle, pairAt, workable}
 use Rattle.scratch.proofs.Pairs.{pair-lift}
 use Rattle.scratch.proofs.Works.{workable-fine}
@@ -19,7 +19,7 @@ use Rattle.distances.proofs.Measured.{measured-not, measured-pair, measured-len
 use Rattle.depths.specs.Depths.{plumbed}
 use Rattle.depths.proofs.Plumbed.{plumbed-not, plumbed-lead, plumbed-length, plumbed-pairs, plumbed-rest}
 use Rattle.lengths.specs.Lengths.{lengthsIn, Holds, lenOf, depthAt}
-use Rattle.lengths.proofs.Cells.{len-of-cell, lead-below}
+use Rattle.lengths.proofs.Cells.{len-of-cell}
 
 module _ (mask : ℕ) (T : Table) (s : List ℕ) where
   abbrev n : ℕ

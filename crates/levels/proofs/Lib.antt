@@ -1,4 +1,9 @@
+pub mod Closure
+pub mod Lists
 pub mod Need
 pub mod Order
 pub mod Folds
 pub mod Sheet
+pub mod Borders
+pub mod Kept
+pub mod Sweep

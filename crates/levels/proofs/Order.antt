@@ -1,6 +1,7 @@
 -- The order by places: every reached row has just one, deeper rows come first and equal depths by lower row number, and the need rises.
 use mathlib.Core.Path.{_≡_, refl, sym, ap, subst, _∙_}
 use mathlib.Core.Bool.{true, not, _&&_}
+use mathlib.Core.List.{List}
 use mathlib.Core.Logic.{_⊎_, inl, inr, _≢_}
 use Prim.Native.Nat.{ℕ, zero, suc, _≤_, _<_}
 use native.Mathlib.Omega.{arith}
@@ -120,16 +121,22 @@ module _ (E : Events) (M : Machine) where
       is-ahead y x (inl (rw (lead-endless E M x (level-mem E M endless x hx .2), lead-reached E M y (l .0) (t .1) (t .2)))))
 
   -- So the order has no repeats.
-  pub order-distinct : Distinct (order E M)
-  order-distinct = pairwise-map Earlier _≢_ (order E M) (λ x y hx hy t e.
+  pub earlier-distinct : (l : List ℕ) → Pairwise Earlier l → Distinct l
+  earlier-distinct l = pairwise-map Earlier _≢_ l (λ x y hx hy t e.
       let u = subst (λ (z : ℕ). ahead E M z x ≡ true) (sym e) t in
-      ahead-one-way x x u u) order-ahead
+      ahead-one-way x x u u)
+
+  pub order-distinct : Distinct (order E M)
+  order-distinct = earlier-distinct (order E M) order-ahead
 
   -- ---- places
 
   -- The row at a place is a reached row,
   pub at-row : (i : ℕ) → i < length (order E M) → rowAt E M i < M .rows
   at-row i h = order-mem E M (rowAt E M i) (at-mem (order E M) i 0 h) .0
+
+  pub at-reached : (i : ℕ) → i < length (order E M) → reached E M (rowAt E M i) ≡ true
+  at-reached i h = order-mem E M (rowAt E M i) (at-mem (order E M) i 0 h) .1
 
   -- every reached row has a place,
   pub place-of : (q : ℕ) → q < M .rows → reached E M q ≡ true → (i : ℕ) × (i < length (order E M)) × (rowAt E M i ≡ q)

@@ -183,19 +183,19 @@ module _ {E : Events} {M : Machine} (s : Sound E M) (z : Light E) where
   ]
 
   -- A row is kept at the offsets below that at which it goes.
-  pub sheet : (k : Offset) (q : ℕ) → q < M .rows → some (eqb q) (kept E M k) ≡ under (far M k) (goes E M q)
+  pub sheet : (k : Offset) (q : ℕ) → q < M .rows → some (eqb q) (kept E M k) ≡ under (far (M .rows) k) (goes E M q)
   unfolding goes
   sheet k q hq = ap (some (eqb q)) (kept-far E M k (omega arith)) ∙ elim (either (reached E M q)) [
     | inl u ↦ (let r = place-of E M q hq u in
-        rw u (subst (λ (x : ℕ). some (eqb x) (kept E M (offset (far M k))) ≡ under (far M k) (till (apart E M x) (depth E M x))) (r .2) (sheet-at (far M k) (r .0) (r .1))))
-    | inr f ↦ rw f (not-true (some (eqb q) (kept E M (offset (far M k)))) (λ t. clash (kept-order s z (far M k) q (some-mem q (kept E M (offset (far M k))) t) .1) f)
-        ∙ sym (le-ltb (far M k) 0 (omega arith)))
+        rw u (subst (λ (x : ℕ). some (eqb x) (kept E M (offset (far (M .rows) k))) ≡ under (far (M .rows) k) (till (apart E M x) (depth E M x))) (r .2) (sheet-at (far (M .rows) k) (r .0) (r .1))))
+    | inr f ↦ rw f (not-true (some (eqb q) (kept E M (offset (far (M .rows) k)))) (λ t. clash (kept-order s z (far (M .rows) k) q (some-mem q (kept E M (offset (far (M .rows) k))) t) .1) f)
+        ∙ sym (le-ltb (far (M .rows) k) 0 (omega arith)))
   ]
 
   -- So many rows are kept.
-  pub kept-count : (k : Offset) → length (kept E M k) ≡ count (λ q. under (far M k) (goes E M q)) (M .rows)
+  pub kept-count : (k : Offset) → length (kept E M k) ≡ count (λ q. under (far (M .rows) k) (goes E M q)) (M .rows)
   kept-count k =
       ap length (kept-far E M k (omega (arith, s .start-in)))
-      ∙ distinct-count (kept E M (offset (far M k))) (M .rows) (folding s z (far M k) .distinct) (λ x m. kept-order s z (far M k) x m .0)
-      ∙ count-cong (λ q. some (eqb q) (kept E M (offset (far M k)))) (λ q. under (far M k) (goes E M q)) (M .rows)
-      (sheet (offset (far M k)))
+      ∙ distinct-count (kept E M (offset (far (M .rows) k))) (M .rows) (folding s z (far (M .rows) k) .distinct) (λ x m. kept-order s z (far (M .rows) k) x m .0)
+      ∙ count-cong (λ q. some (eqb q) (kept E M (offset (far (M .rows) k)))) (λ q. under (far (M .rows) k) (goes E M q)) (M .rows)
+      (sheet (offset (far (M .rows) k)))

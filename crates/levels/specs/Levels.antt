@@ -17,10 +17,15 @@ abbrev pub need : ℕ → Len → ℕ
 need k (len d) = k - d
 need k endless = 0
 
--- An offset as a number: none is taken as twice the rows.
-abbrev pub far : Machine → Offset → ℕ
-far M (offset k) = k
-far M none = 2 * M .rows
+-- The same by the row's lead, which is one more than its depth.
+abbrev pub needBy : ℕ → Len → ℕ
+needBy k (len c) = suc k - c
+needBy k endless = 0
+
+-- An offset as a number, of n rows: none is taken as twice the rows.
+abbrev pub far : ℕ → Offset → ℕ
+far n (offset k) = k
+far n none = 2 * n
 
 -- The shorter of two lengths.
 abbrev pub shorter : Len → Len → Len

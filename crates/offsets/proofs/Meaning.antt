@@ -12,10 +12,10 @@ use Rattle.automata.proofs.Count.{count-cong}
 use Rattle.tables.specs.Lengths.{distance, lead, isZero, reached, depth}
 use Rattle.tables.specs.Table.{offset}
 use Rattle.tables.specs.Reduction.{sameLen, kept}
-use Rattle.tables.proofs.Lengths.{Below, distance-below}
+use Rattle.tables.proofs.Lengths.{Below, distance-below, lead-below}
 use Rattle.scratch.specs.Scratch.{lenCell}
 use Rattle.lengths.specs.Lengths.{Holds, lenOf, depthAt}
-use Rattle.lengths.proofs.Cells.{len-of-cell, lead-below}
+use Rattle.lengths.proofs.Cells.{len-of-cell}
 use Rattle.lengths.proofs.Found.{depth-held}
 use Rattle.levels.specs.Levels.{shorter, longer, till, under, apart, goes, ahead, nearestOf}
 use Rattle.levels.proofs.Sheet.{apart-is, kept-count}

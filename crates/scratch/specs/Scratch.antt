@@ -56,7 +56,11 @@ queued s n m = take m (drop (queueAt n) s)
 abbrev pub foldIn : List ℕ → ℕ → ℕ → ℕ
 foldIn s n q = getD s (foldsAt n + q) 0
 
--- How many cells that takes: n * (n - 1) / 2 + 4 * n, as proved in proofs/Triangle.antt.
+-- The lead of row q in a scratch that begins with the leads.
+abbrev pub leadIn : List ℕ → ℕ → ℕ
+leadIn s q = getD s q 0
+
+-- How many cells all that takes: n * (n - 1) / 2 + 4 * n, as proved in proofs/Triangle.antt.
 abbrev pub needed : ℕ → ℕ
 needed n = triangle n + 4 * n
 

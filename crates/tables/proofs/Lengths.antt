@@ -215,9 +215,13 @@ depth-one E M q endless (len e) h k = let r = h (suc e) in absurd (omega (arith,
 depth-one E M q endless endless h k = refl
 
 -- A depth is at most the number of rows, and below it where there is a row.
+pub lead-below : (E : Events) (M : Machine) (q : ℕ) → Below (M .rows + 1) (lead E M q)
+unfolding lead
+lead-below E M q = distance-below E (beside (only M q) sink) (M .start) (M .rows)
+
 pub depth-below : (E : Events) (M : Machine) (q : ℕ) → 0 < M .rows → Below (M .rows) (depth E M q)
-unfolding depth lead
-depth-below E M q h = pick (distance E (beside (only M q) sink) (M .start) (M .rows)) (distance-below E (beside (only M q) sink) (M .start) (M .rows))
+unfolding depth
+depth-below E M q h = pick (lead E M q) (lead-below E M q)
   where
     pick : (x : Len) → Below (M .rows + 1) x → Below (M .rows) (oneLess x)
     pick (len L) b = omega arith

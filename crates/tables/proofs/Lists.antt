@@ -1,9 +1,9 @@
 -- Laws of the lists that the rules of reduction are written with.
 use mathlib.Core.Path.{_≡_, refl, sym, ap, subst, _∙_}
-use mathlib.Core.Bool.{Bool, true, false}
+use mathlib.Core.Bool.{Bool, true, false, cond}
 use mathlib.Core.List.{List, [], _∷_, _++_, append-nil, append-assoc}
 use mathlib.Core.Logic.{_⊎_, inl, inr, _≢_}
-use Prim.Native.Nat.{ℕ, zero, suc, _≤_, _<_, zero-le, suc-le-suc}
+use Prim.Native.Nat.{ℕ, zero, suc, _+_, _≤_, _<_, zero-le, suc-le-suc}
 use native.Mathlib.Omega.{arith}
 use native.Mathlib.Decide.{decLe, decLt}
 use lib.Dec.{eqb}
@@ -138,6 +138,63 @@ mem-filter f (y ∷ l) x h t = pick (f y) refl h (λ g. mem-filter f l x g t)
     pick true e (inr g) ih = inr (ih g)
     pick false e (inl g) ih = clash (subst (λ (z : ℕ). f z ≡ true) g t) e
     pick false e (inr g) ih = ih g
+
+-- ---- those that pass a test
+
+-- 1 if the test is passed
+abbrev pub one : Bool → ℕ
+one b = cond b 1 0
+
+module _ (f : ℕ → Bool) where
+  filter-cons : (x : ℕ) (l : List ℕ) → filter f (x ∷ l) ≡ cond (f x) (x ∷ []) [] ++ filter f l
+  unfolding filter
+  filter-cons x l = pick (f x)
+    where
+      pick : (b : Bool) → (elim b [ true ↦ x ∷ filter f l | false ↦ filter f l ]) ≡ cond b (x ∷ []) [] ++ filter f l
+      pick true = refl
+      pick false = refl
+
+  pub filter-one : (x : ℕ) → filter f (x ∷ []) ≡ cond (f x) (x ∷ []) []
+  unfolding filter
+  filter-one x = filter-cons x [] ∙ append-nil (cond (f x) (x ∷ []) [])
+
+  filter-length : (x : ℕ) (l : List ℕ) → length (filter f (x ∷ l)) ≡ one (f x) + length (filter f l)
+  filter-length x l = ap length (filter-cons x l) ∙ pick (f x)
+    where
+      pick : (b : Bool) → length (cond b (x ∷ []) [] ++ filter f l) ≡ one b + length (filter f l)
+      pick true = omega arith
+      pick false = omega arith
+
+  pub filter-append : (l m : List ℕ) → filter f (l ++ m) ≡ filter f l ++ filter f m
+  unfolding filter
+  filter-append [] m = refl
+  filter-append (x ∷ l) m = pick (f x) (filter-append l m)
+    where
+      pick : (b : Bool) → filter f (l ++ m) ≡ filter f l ++ filter f m
+          → (elim b [ true ↦ x ∷ filter f (l ++ m) | false ↦ filter f (l ++ m) ]) ≡ (elim b [ true ↦ x ∷ filter f l | false ↦ filter f l ]) ++ filter f m
+      pick true ih = ap (λ (k : List ℕ). x ∷ k) ih
+      pick false ih = ih
+
+  pub filter-few : (l : List ℕ) → length (filter f l) ≤ length l
+  unfolding filter
+  filter-few [] = omega arith
+  filter-few (x ∷ l) = omega (arith, filter-length x l, pick (f x), filter-few l)
+    where
+      pick : (b : Bool) → one b ≤ 1
+      pick true = omega arith
+      pick false = omega arith
+
+-- Two tests that exclude one another, and a third that is passed where one of them is.
+pub filter-sum : (f g h : ℕ → Bool) → ((x : ℕ) → one (f x) + one (g x) ≤ one (h x)) → (l : List ℕ) → length (filter f l) + length (filter g l) ≤ length (filter h l)
+unfolding filter
+filter-sum f g h ok [] = omega arith
+filter-sum f g h ok (x ∷ l) = omega (arith, filter-length f x l, filter-length g x l, filter-length h x l, ok x, filter-sum f g h ok l)
+
+-- Two tests that the members pass alike.
+pub filter-same : (f g : ℕ → Bool) (l : List ℕ) → ((x : ℕ) → Mem x l → f x ≡ g x) → filter f l ≡ filter g l
+unfolding filter
+filter-same f g [] h = refl
+filter-same f g (x ∷ l) h = filter-cons f x l ∙ rw (h x (inl refl), filter-same f g l (λ y m. h y (inr m))) (sym (filter-cons g x l))
 
 -- ---- tests of a list
 

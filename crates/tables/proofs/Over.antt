@@ -92,11 +92,14 @@ tabulate-next n f d i e x he hx h fits =
     ap (λ (u : List ℕ). set u i x) he ∙ ap (set (over d 0 (take i l)) i) value ∙ ap (λ (j : ℕ). set (over d 0 (take i l)) j (getD l i 0)) (sym (zero-add i))
     ∙ over-next d 0 l i (omega arith) (omega arith) ∙ ap (λ (j : ℕ). over d 0 (take j l)) (sym (add-one i))
 
--- What is written from the front, and then on from where that ends.
+-- Written on from where it ended.
+pub over-on : (s : List ℕ) (at : ℕ) (l x : List ℕ) (end : ℕ) {t u : List ℕ} → t ≡ over s at l → end ≡ at + length l → end ≤ length s → u ≡ over t end x → u ≡ over s at (l ++ x)
+over-on s at l x end et e fits eu =
+    eu ∙ ap (λ (v : List ℕ). over v end x) et ∙ ap (λ (k : ℕ). over (over s at l) k x) e ∙ over-over s at l (omega arith) x
+
+-- The same from the front.
 pub over-then : (d e f s t : List ℕ) (n : ℕ) → e ≡ over d 0 s → n ≡ length s → n ≤ length d → f ≡ over e n t → f ≡ over d 0 (s ++ t)
-over-then d e f s t n he hn fits hf =
-    let m : n ≡ 0 + length s = omega arith in
-    hf ∙ ap (λ (x : List ℕ). over x n t) he ∙ ap (λ (k : ℕ). over (over d 0 s) k t) m ∙ over-over d 0 s (omega arith) t
+over-then d e f s t n he hn fits hf = over-on d 0 s t n he (omega arith) fits hf
 
 -- What is read inside of what was written, before it and behind it.
 module _ (d : List ℕ) (at : ℕ) (s : List ℕ) (fits : at + length s ≤ length d) where

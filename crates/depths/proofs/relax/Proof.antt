@@ -1,32 +1,26 @@
 use native.Mathlib.Omega.{arith}
 use borrow.Author.Needs.{needs}
 use Rattle.rules.specs.Rules.{tableOf}
-use Rattle.depths.proofs.Moves.{relax-none, relax-kept, relax-raised}
+use Rattle.depths.proofs.Moves.{risen-none, risen-raised, relax-none, relax-told}
 use Rattle.depths.proofs.relax.Statement.{statement}
 use Rattle.depths.proofs.relax.Tie as tie
 
 returns : tie.Need-returns
-returns c start marks =
-    let a = c .before .before .before .before .before .before .args in
-    let T = tableOf (a .rows) (a .events) start (a .cells .now) marks in
-    relax-none (a .mask) T (a .scratch .now) (a .row) (a .event) (c .before .before .lead-at .ensures) (c .before .cell .ensures) (omega (arith, c .if1 .taken))
+returns c =
+    let a = c .before .before .before .before .before .before .args in (
+      risen-none,
+      λ u hp ha start marks.
+          relax-none (a .mask) (tableOf (a .rows) (a .events) start (a .cells .now) marks) (a .scratch .now) (a .row) (a .event) (c .before .before .wide .ensures) (c .before .cell .ensures) (c .if1 .taken),
+    )
 
 returns-2 : tie.Need-returns-2
-returns-2 c start marks =
-    let a = c .before .before .before .before .before .before .before .before .before .before .before .before .before .before .before .before .before .args in
-    let p = c .before .before .before .before .before .before .before .before .before .before .before .before .before .before .before .before .before .pre in
-    let T = tableOf (a .rows) (a .events) start (a .cells .now) marks in
-    relax-raised (a .mask) T (a .scratch .now) (a .row) (a .event) (c .before .before .before .before .before .before .before .before .before .before .before .before .before .lead-at .ensures) (c .before .before .before .before .before .before .before .before .before .before .before .before .cell .ensures)
-    (c .before .before .before .before .before .before .before .before .before .before .target .ensures) (c .before .before .before .before .before .before .before .before .before .lead-at2 .ensures) (c .before .before .before .before .before .before .before .before .weight .ensures) (c .before .before .before .before .before .before .before .longer .ensures) (c .before .before .before .before .before .cell2 .ensures)
-    (p .0) (p .1) (p .2) (c .before .before .before .before .before .before .before .before .before .before .before .if1 .left) (omega (arith, c .before .before .before .before .if2 .taken)) (c .before .before .put .ensures)
-
-returns-3 : tie.Need-returns-3
-returns-3 c start marks =
-    let a = c .before .before .before .before .before .before .before .before .before .before .before .before .before .args in
-    let T = tableOf (a .rows) (a .events) start (a .cells .now) marks in
-    relax-kept (a .mask) T (a .scratch .now) (a .row) (a .event) (c .before .before .before .before .before .before .before .before .before .lead-at .ensures) (c .before .before .before .before .before .before .before .before .cell .ensures)
-    (c .before .before .before .before .before .before .target .ensures) (c .before .before .before .before .before .lead-at2 .ensures) (c .before .before .before .before .weight .ensures) (c .before .before .before .longer .ensures) (c .before .cell2 .ensures)
-    (omega (arith, c .if2 .left))
+returns-2 c =
+    let a = c .before .before .before .before .before .before .before .before .before .before .before .before .before .before .args in (
+      risen-raised (omega arith) (c .before .before .raise .ensures),
+      λ u hp ha start marks.
+          relax-told (a .mask) (tableOf (a .rows) (a .events) start (a .cells .now) marks) (a .scratch .now) (a .row) (a .event) (c .before .before .before .before .before .before .before .before .before .before .wide .ensures) (c .before .before .before .before .before .before .before .before .before .cell .ensures) (c .before .before .before .before .before .before .before .before .if1 .left)
+          (c .before .before .before .before .before .before .before .target .ensures) (c .before .before .before .before .before .before .weight .ensures) (c .before .before .before .before .before .longer .ensures) (c .before .before .before .wide2 .ensures) (c .before .before .raise .ensures) u hp ha,
+    )
 
 pub relax-spec : {M : Type 1} → statement M
 relax-spec =
@@ -41,8 +35,5 @@ relax-spec =
     (λ c κs. search needs)
     (λ c κs. search needs)
     (λ c κs. search needs)
-    (λ c κs. search needs)
     (λ c. search needs)
-    returns-2
-    (λ c. search needs)
-    returns-3)
+    returns-2)

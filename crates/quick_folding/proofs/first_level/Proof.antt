@@ -1,0 +1,46 @@
+use Rattle.quick_folding.proofs.Entering.{shape}
+use Rattle.quick_folding.proofs.Ending.{apart-then, searching, clear-apart, clear-laid, clear-fits, before-first, going-first}
+use native.Mathlib.Omega.{arith}
+use borrow.Author.Needs.{needs}
+use Rattle.quick_folding.proofs.first_level.Statement.{statement}
+use Rattle.quick_folding.proofs.first_level.Tie as tie
+
+mul-clear : tie.Need-mul-clear
+mul-clear c = omega (arith, shape (c .before .before .before .before .pre .0) .rows-fit)
+
+mul-clear-2 : tie.Need-mul-clear-2
+mul-clear-2 c = omega (arith, shape (c .before .before .before .before .pre .0) .rows-fit)
+
+until-requires : tie.Need-until-requires
+until-requires c κs =
+    let a = c .before .before .before .before .before .before .before .before .args in
+    let p = c .before .before .before .before .before .before .before .before .pre in
+    let e = c .before .before .before .clear .ensures in
+    searching (a .mask) (clear-fits (a .mask) (p .0) (p .1) e) (clear-laid (a .mask) (p .0) (p .1) e) (p .2) (omega arith)
+
+any-level-requires : tie.Need-any-level-requires
+any-level-requires c κs =
+    let a = c .before .before .before .before .before .before .before .before .before .before .args in
+    let p = c .before .before .before .before .before .before .before .before .before .before .pre in
+    let e = c .before .before .before .before .before .clear .ensures in
+    (clear-fits (a .mask) (p .0) (p .1) e, before-first (a .mask) (p .0) (p .1) e (p .2) (c .before .until .ensures))
+
+returns : tie.Need-returns
+returns c =
+    let a = c .before .before .before .before .before .before .before .before .before .before .before .before .before .args in
+    let p = c .before .before .before .before .before .before .before .before .before .before .before .before .before .pre in
+    let e = c .before .before .before .before .before .before .before .before .clear .ensures in
+    let r = c .before .before .any-level .ensures in
+    (apart-then (clear-apart (a .mask) (p .0) (p .1) e) (r .apart), going-first r)
+
+pub first-level-spec : {M : Type 1} → statement M
+first-level-spec =
+    tie.close
+    (tie.spec
+    mul-clear
+    mul-clear-2
+    (λ c κs. search needs)
+    until-requires
+    any-level-requires
+    (λ c. search needs)
+    returns)

@@ -1,0 +1,41 @@
+use Rattle.quick_folding.proofs.Ending.{searching, level-low, onward, next-above, before-next}
+use native.Mathlib.Omega.{arith}
+use borrow.Author.Needs.{needs}
+use Rattle.quick_folding.proofs.next_level.Statement.{statement}
+use Rattle.quick_folding.proofs.next_level.Tie as tie
+
+next-requires : tie.Need-next-requires
+next-requires c κs =
+    let a = c .before .before .before .before .args in
+    let p = c .before .before .before .before .pre in
+    onward (a .mask) (p .0) (p .1) (omega (arith, p .2, p .3))
+
+until-requires : tie.Need-until-requires
+until-requires c κs =
+    let a = c .before .before .before .before .before .before .args in
+    let p = c .before .before .before .before .before .before .pre in
+    searching (a .mask) (p .0) (p .1 .swept .gone .laid) (p .2) (omega (arith, p .3))
+
+any-level-requires : tie.Need-any-level-requires
+any-level-requires c κs =
+    let a = c .before .before .before .before .before .before .before .before .args in
+    let p = c .before .before .before .before .before .before .before .before .pre in
+    (p .0, before-next (a .mask) (p .0) (p .1) (omega (arith, p .2, p .3)) (c .before .before .before .next .ensures) (p .2) (c .before .until .ensures))
+
+returns : tie.Need-returns
+returns c =
+    let a = c .before .before .before .before .before .before .before .before .before .before .before .args in
+    let p = c .before .before .before .before .before .before .before .before .before .before .before .pre in
+    let r = c .before .before .any-level .ensures in
+    let up = next-above (a .mask) (p .0) (p .1) (omega (arith, p .2, p .3)) (c .before .before .before .before .before .before .next .ensures) in
+    (r .apart, record { swept = r .swept; rests = λ e. r .rests e (omega arith) }, up, level-low (a .mask) (p .0) (p .1) (omega (arith, p .2, p .3)))
+
+pub next-level-spec : {M : Type 1} → statement M
+next-level-spec =
+    tie.close
+    (tie.spec
+    next-requires
+    until-requires
+    any-level-requires
+    (λ c. search needs)
+    returns)
