@@ -53,7 +53,7 @@ reached-cell E M q ne = ⊎-elim (λ r. r) (λ r. absurd (ne (ap lenCell (lead-u
 abbrev Answered : ℕ → Table → Offset → List ℕ → List ℕ → Bool → Type 0
 Answered mask T x s t r =
     (r ≡ workableIn fewCells T (length s))
-    × (r ≡ true → Folds (eventsOf (weightBy mask) T) (machine T) x 0 t)
+    × (r ≡ true → Folds (eventsOf (weightBy mask) T) (machine T) x t)
     × (r ≡ false → t ≡ s)
     × (length t ≡ length s)
     × ((i : ℕ) → fewCells (T .rows) ≤ i → getD t i 0 ≡ getD s i 0)
@@ -139,9 +139,9 @@ module _ (mask : ℕ) (T : Table) {s t₁ : List ℕ} {r : Bool} (e : r ≡ work
         answered {t₄} x at v = (
           sym w,
           λ g. record {
-            leads = λ q l. ap (λ (i : ℕ). getD t₄ i 0) (zero-add q) ∙ v .below q (omega arith) ∙ lead-is q l;
+            leads = λ q l. v .below q (omega arith) ∙ lead-is q l;
             folds = λ q l u.
-                ap (λ (i : ℕ). getD t₄ (i + q) 0) (zero-add (2 * n)) ∙ v .here q l
+                v .here q l
                 ∙ fold-some n t₃ q (λ z. cell-reached E M q u (sym (lead-is q l) ∙ z)) ∙ f .folds q l u
                 ∙ ap (λ (y : ℕ). fold E M (offset y) q) at ∙ sym (ap (λ (y : ℕ → ℕ). y q) (fold-far E M x (shape .some-row)));
           },

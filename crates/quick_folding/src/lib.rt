@@ -337,7 +337,7 @@ pub fn fold_rows(
     ensures { λ r. ⌜ (let T = tableOf rows events start (now (cells .entry)) (now (marks .entry)) in let E = eventsOf (weightBy mask) T in
         let s = now (scratch .entry) in let t = now (scratch .exit) in
         (r ≡ workableIn fewCells T (length s))
-        × (r ≡ true → Folds E (machine T) (offsetOf offset) 0 t)
+        × (r ≡ true → Folds E (machine T) (offsetOf offset) t)
         × (r ≡ false → t ≡ s)
         × (length t ≡ length s)
         × ((i : ℕ) → fewCells rows ≤ i → getD t i 0 ≡ getD s i 0)) ⌝ }
