@@ -43,7 +43,7 @@ module _ {E : Events} {M : Machine} {L : ℕ} {W : Values} {place : ℕ → ℕ}
   few : {a : ℕ} → a < W .events → a < E .count
   few l = let e = v .events in omega arith
 
-  pub near-kept : Kept W (λ i j. Near E M M L (W .row i) (W .row j))
+  near-kept : Kept W (λ i j. Near E M M L (W .row i) (W .row j))
   near-kept =
       record {
         marks = λ t i j hi hj n.
@@ -93,11 +93,11 @@ module _ {E : Events} {M : Machine} {L : ℕ} {W : Values} {place : ℕ → ℕ}
             ∙ ih long (place (M .target (W .row i) a)) (place (M .target (W .row j) a)) (v .inside _ hq) (v .inside _ hp) s
             ∙ sym (v .stands (M .target (W .row j) a) hp .same w (r .1) long)
 
-  pub near-largest : Largest W (λ i j. Near E M M L (W .row i) (W .row j))
+  near-largest : Largest W (λ i j. Near E M M L (W .row i) (W .row j))
   near-largest = record { holds = λ f k i j hi hj e. record { same = λ w r l. alike f k w r l i j hi hj e } }
 
   -- So the leaders of a settled level are those of `Near L`.
-  pub settled-near : {n : ℕ} {s t : List ℕ} → Settled n W s t → Exact W (λ i j. Near E M M L (W .row i) (W .row j)) (nxtAt n t)
+  settled-near : {n : ℕ} {s t : List ℕ} → Settled n W s t → Exact W (λ i j. Near E M M L (W .row i) (W .row j)) (nxtAt n t)
   settled-near d = settled-exact d near-kept near-largest
 
 -- ---- the values of a stored table
@@ -136,7 +136,7 @@ pub record AtHand (top : Bool) (mask n m to start : ℕ) (cells marks s : List �
   pub before-back : (q p : ℕ) → old q → old p → placeOf n s q ≡ placeOf n s p → Near (eventsBy mask m) (machineBy n m start cells marks) (machineBy n m start cells marks) (L - 1) q p
 
 module _ {top : Bool} {mask n m to start : ℕ} {cells marks s : List ℕ} {L : ℕ} {hand old : ℕ → Type 0} (h : AtHand top mask n m to start cells marks s L hand old) where
-  pub level-of : Level (eventsBy mask m) (machineBy n m start cells marks) L (valuesBy top mask n m to cells marks s) (placeOf n s) hand old
+  level-of : Level (eventsBy mask m) (machineBy n m start cells marks) L (valuesBy top mask n m to cells marks s) (placeOf n s) hand old
   level-of =
       record {
         events = refl;

@@ -158,15 +158,7 @@ fn by_mark(scratch: &mut [u16], n: usize, to: usize, marks: &[u8])
 }
 
 // Keys or jumps, from cell `at` on: the places that stand for the targets at an event.
-fn by_event(
-    n: usize,
-    m: usize,
-    to: usize,
-    cells: &[u16],
-    scratch: &mut [u16],
-    a: usize,
-    at: usize,
-)
+fn by_event(n: usize, m: usize, to: usize, cells: &[u16], scratch: &mut [u16], a: usize, at: usize)
     requires { ⌜ (let x = now cells in let s = now scratch in Sizes n m to x s × ((i : ℕ) → i < to → Reads n m to x s (rowIn n (front n s) i)) × Span n at to s × (a < m)) ⌝ }
     ensures { λ r. ⌜ (let s = now (scratch .entry) in let b = front n s in Filled n at to (λ i. placeIn n m (now (cells .entry)) b (rowIn n b i) a) s (now (scratch .exit))) ⌝ }
 {

@@ -6,7 +6,7 @@ ghost use lib.ListN.{length};
 ghost use Rattle.scratch.specs.Tests.{Tested};
 ghost use Rattle.splitting.specs.Places.{nxtAt, slotOf, Canon, Room, Ready, Turning, Turn, Split};
 
-// The slot of a class and a key in a table whose size is a power of 2.
+// The slot of a class and a key in a table. Where the size is a power of 2 all slots can be taken.
 fn slot(c: usize, h: usize, size: usize) -> usize
     requires { ⌜ (c < 65536) × (h < 65536) × (0 < size) ⌝ }
     ensures { λ r. ⌜ (r ≡ slotOf c h size) × (r < size) ⌝ }
@@ -98,7 +98,7 @@ fn canonical(scratch: &[u16], n: usize, to: usize) -> bool
     true
 }
 
-// The same as `split_all` where that can be done; elsewhere it changes nothing and answers that no leader was made.
+// The same, where there is room for it and each leader leads and is no later place; elsewhere nothing is changed, and no leader made.
 pub fn split(scratch: &mut [u16], n: usize, to: usize, size: usize) -> bool
     ensures { λ r. ⌜ (let s = now (scratch .entry) in let t = now (scratch .exit) in (Ready n to size s → Split n to s t r) × ((Ready n to size s → ⊥) → (t ≡ s) × (r ≡ false))) ⌝ }
 {

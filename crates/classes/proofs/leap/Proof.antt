@@ -24,7 +24,7 @@ by-jump-requires c κs =
 
 -- the first split could be made, and it was
 split-done : (c : tie.After-split Inv-loop μ-loop) → Split (c .before .before .before .before .before .before .before .args .n) (c .before .before .before .before .before .before .before .args .to) (c .before .before .before .before .by-jump .last .0) (c .split .last .0) (c .split .result)
-split-done c = let p = c .before .before .before .before .before .before .before .pre in c .split .ensures .0 (led-ready (p .0) (p .1) (c .before .before .before .before .by-jump .ensures))
+split-done c = let p = c .before .before .before .before .before .before .before .pre in c .split .ensures .0 (led-ready (p .0) (c .before .before .before .before .by-jump .ensures))
 
 loop-holds : tie.Need-loop-holds Inv-loop μ-loop
 loop-holds c =
@@ -32,8 +32,8 @@ loop-holds c =
     let led = c .before .before .before .before .before .before .by-jump .ensures in
     let d = split-done (c .before .before) in
     record {
-      ready = record { room = room-after (led-ready (p .0) (p .1) led .room) (d .frame); canon = d .canon };
-      inside = λ i l. omega (arith, led-jumps (p .0) (p .1) led d i l, p .1 i l);
+      ready = record { room = room-after (led-ready (p .0) led .room) (d .frame); canon = d .canon };
+      inside = λ i l. omega (arith, led-jumps (p .0) led d i l, p .1 i l);
       frame = frame-none;
       doubles = none;
     }
@@ -58,8 +58,8 @@ returns c =
     record {
       first = c .before .before .before .before .split .last .0;
       made = c .before .before .before .before .split .result;
-      keyed = led-keyed (p .0) (p .1) led d;
-      jumps = led-jumps (p .0) (p .1) led d;
+      keyed = led-keyed (p .0) led d;
+      jumps = led-jumps (p .0) led d;
       doubles = c .before .loop .inv .doubles;
     }
 
