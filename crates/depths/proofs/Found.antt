@@ -1,9 +1,9 @@
 -- From a table that can be worked on, and the leads before the first event, to those that are found.
-use mathlib.Core.Path.{_≡_, refl, sym, ap, subst, _∙_}
+use mathlib.Core.Path.{_≡_, refl, sym, subst, _∙_}
 use mathlib.Core.Bool.{Bool, false, not}
 use mathlib.Core.List.{List}
 use mathlib.Core.Logic.{_⊎_, inl}
-use Prim.Native.Nat.{ℕ, _+_, _-_, _≤_, _<_, min}
+use Prim.Native.Nat.{ℕ, _-_, _≤_, _<_, min}
 use native.Mathlib.Omega.{arith}
 use native.Mathlib.Decide.{ℕ-discrete}
 use borrow.Author.Tests.{not-false}
@@ -15,7 +15,6 @@ use Rattle.tables.specs.Lengths.{lead}
 use Rattle.tables.specs.Table.{Table, machine, eventsOf, weightBy}
 use Rattle.tables.proofs.Over.{front-tabulate, rest, rest-length}
 use Rattle.tables.proofs.Reduced.{sound-of}
-use Rattle.rules.specs.Rules.{tableOf}
 use Rattle.scratch.specs.Scratch.{leadsAt, lenCell, cleared, workable, leadIn}
 use Rattle.scratch.proofs.Cells.{cleared-length, cleared-behind, cleared-inside}
 use Rattle.scratch.proofs.Works.{workable-valid}

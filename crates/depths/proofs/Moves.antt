@@ -11,7 +11,7 @@ use borrow.Author.Tests.{lt-ltb, le-ltb}
 use lib.ListN.{length, getD, set, length-set}
 use lib.Seq.{getD-set-same, getD-set-other}
 use Rattle.automata.specs.Runs.{Events, Machine}
-use Rattle.automata.proofs.Tests.{either, clash}
+use Rattle.automata.proofs.Tests.{either}
 use Rattle.automata.proofs.Runs.{Reach, event, _then_, less}
 use Rattle.tables.specs.Table.{Table, machine, eventsOf, targetOf, weightBy}
 use Rattle.rules.specs.Rules.{tableOf}

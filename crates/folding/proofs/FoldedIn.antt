@@ -13,15 +13,14 @@ use Rattle.tables.specs.Lengths.{lead}
 use Rattle.tables.specs.Reduction.{order, kept, fold, similar}
 use Rattle.tables.proofs.Lists.{tabulate-length, tabulate-at}
 use Rattle.tables.proofs.Over.{over-length, over-inside, over-before, over-behind, over-again, over-swap}
-use Rattle.scratch.specs.Scratch.{leadsAt, queueAt, foldsAt, numbersAt, lenCell, workable, cleared}
+use Rattle.scratch.specs.Scratch.{leadsAt, queueAt, foldsAt, numbersAt, lenCell, leadAt, workable, cleared}
 use Rattle.scratch.proofs.Soundness.{workable-shape}
+use Rattle.scratch.proofs.Order.{order-few, order-meaning}
 use Rattle.lengths.specs.Lengths.{lengthsIn, Holds}
 use Rattle.lengths.proofs.Found.{lengths-size, lengths-not, lengths-beyond, lengths-hold}
 use Rattle.folding.specs.Folding.{foldCells, foldedIn}
 use Rattle.folding.specs.Found.{Room, Folded}
 use Rattle.folding.proofs.Rows.{sift-few}
-use Rattle.folding.proofs.Order.{order-few}
-use Rattle.folding.proofs.Meaning.{order-meaning}
 
 module _ (mask : ℕ) (k : Offset) (T : Table) (s : List ℕ) where
   abbrev n : ℕ
@@ -63,7 +62,7 @@ module _ (mask : ℕ) (k : Offset) (T : Table) (s : List ℕ) where
     folds-length = tabulate-length n (fold E M k)
 
     order-short : length (order E M) ≤ n
-    order-short = subst (λ (l : List ℕ). length l ≤ n) (order-meaning small holds) (order-few n lengths small)
+    order-short = subst (λ (l : List ℕ). length l ≤ n) (order-meaning E M (leadAt lengths n) small (holds .leads-hold)) (order-few (leadAt lengths n) n small)
 
     kept-short : length (kept E M k) ≤ n
     unfolding kept

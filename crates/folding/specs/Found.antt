@@ -2,8 +2,8 @@
 -- Where s holds the distances and the leads of a machine, they are the machine's: proofs/Meaning.antt.
 use mathlib.Core.Path.{_≡_}
 use mathlib.Core.Bool.{Bool, cond}
-use mathlib.Core.List.{List, [], _∷_, _++_}
-use Prim.Native.Nat.{ℕ, zero, suc, _+_, _≤_, _<_}
+use mathlib.Core.List.{List, [], _∷_}
+use Prim.Native.Nat.{ℕ, _+_, _≤_, _<_}
 use lib.Dec.{eqb}
 use lib.ListN.{length, getD}
 use Rattle.automata.specs.Runs.{Events, Machine}
@@ -11,6 +11,7 @@ use Rattle.tables.specs.Lists.{tabulate, filter, some, first, sift, over}
 use Rattle.tables.specs.Table.{Offset}
 use Rattle.tables.specs.Reduction.{similarBy, order, kept, fold}
 use Rattle.scratch.specs.Scratch.{leadAt, queued, pairAt, queueAt, foldsAt, needed}
+use Rattle.scratch.specs.Order.{levelOf, levelsOf, orderOf}
 use Rattle.lengths.specs.Lengths.{Holds, lenOf, depthAt}
 
 -- Whether rows q and p are similar.
@@ -21,18 +22,15 @@ similarAt k n s q p = similarBy k (lenOf (pairAt s q p)) (depthAt n s q) (depthA
 unfoldable pub having : ℕ → List ℕ → ℕ → List ℕ → List ℕ
 having n s L l = filter (λ q. eqb (leadAt s n q) L) l
 
--- All rows that have the lead L, lower numbers first.
-unfoldable pub levelAt : ℕ → List ℕ → ℕ → List ℕ
-levelAt n s L = having n s L (tabulate n (λ q. q))
+-- All rows that have the lead L, those of leads 1 to L, and the order.
+abbrev pub levelAt : ℕ → List ℕ → ℕ → List ℕ
+levelAt n s L = levelOf (leadAt s n) n L
 
--- The rows of leads 1 to L, the highest lead first.
-unfoldable pub levelsAt : ℕ → List ℕ → ℕ → List ℕ
-levelsAt n s zero = []
-levelsAt n s (suc L) = levelAt n s (suc L) ++ levelsAt n s L
+abbrev pub levelsAt : ℕ → List ℕ → ℕ → List ℕ
+levelsAt n s L = levelsOf (leadAt s n) n L
 
--- The reached rows by falling lead, endless first.
-unfoldable pub orderAt : ℕ → List ℕ → List ℕ
-orderAt n s = levelAt n s 65535 ++ levelsAt n s n
+abbrev pub orderAt : ℕ → List ℕ → List ℕ
+orderAt n s = orderOf (leadAt s n) n
 
 -- What x adds to the rows that are kept: itself, or nothing where it is `like` one of them.
 unfoldable pub added : (ℕ → ℕ → Bool) → List ℕ → ℕ → List ℕ

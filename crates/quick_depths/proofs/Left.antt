@@ -1,21 +1,21 @@
 -- The rows that are left after a round that drops none are endless.
 use mathlib.Core.Path.{_≡_, refl, sym, ap, subst, _∙_}
-use mathlib.Core.Bool.{Bool, true, false, true≢false, false≢true}
-use mathlib.Core.List.{List, []}
-use mathlib.Core.Logic.{_⊎_, inl, inr, ⊎-elim}
-use Prim.Native.Nat.{ℕ, zero, suc, _+_, _-_, _*_, _≤_, _<_, min}
+use mathlib.Core.Bool.{Bool, true, false, true≢false}
+use mathlib.Core.List.{List}
+use mathlib.Core.Logic.{inr}
+use Prim.Native.Nat.{ℕ, zero, suc, _+_, _*_, _≤_, _<_}
 use native.Mathlib.Omega.{arith}
 use borrow.Author.Count.{below-more}
-use lib.ListN.{length, getD, set, length-set}
-use lib.Seq.{getD-set-same, getD-set-other}
-use Rattle.automata.proofs.Runs.{Reach, Way, _then_, less}
-use Rattle.tables.specs.Table.{Table, machine, eventsOf, targetOf, weightBy}
+use lib.ListN.{length, getD, set}
+use lib.Seq.{getD-set-other}
+use Rattle.automata.proofs.Runs.{Reach, _then_, less}
+use Rattle.tables.specs.Table.{Table, machine, eventsOf, weightBy}
 use Rattle.rules.specs.Rules.{tableOf}
 use Rattle.scratch.specs.Scratch.{leadIn, cleared}
 use Rattle.depths.specs.Steps.{Known}
 use Rattle.depths.proofs.Moves.{grown-lead}
 use Rattle.quick_depths.specs.Leads.{leftAt, seenAt, Space, Marked, Grows}
-use Rattle.quick_depths.specs.Rounds.{Wide, From, Seeing, Spread, Fine, Dropped, Whole, SetRow, not-left, set-it, Round}
+use Rattle.quick_depths.specs.Rounds.{From, Spread, Fine, Dropped, Whole, SetRow, not-left, set-it, Round}
 use Rattle.quick_depths.proofs.Growth.{marked-none, marked-then, marked-set, kept-then, kept-lead, grows-none}
 use Rattle.scratch.proofs.Cells.{cleared-length, cleared-before, cleared-behind, cleared-inside}
 

@@ -1,18 +1,17 @@
 -- Rows that are seen, and the runs that lead to them.
-use mathlib.Core.Path.{_≡_, refl, sym, ap, subst, _∙_}
-use mathlib.Core.List.{List, []}
-use mathlib.Core.Logic.{_⊎_, inl, inr, ⊎-elim}
-use Prim.Native.Nat.{ℕ, zero, suc, _+_, _-_, _*_, _≤_, _<_}
+use mathlib.Core.Path.{_≡_, refl, sym, subst, _∙_}
+use mathlib.Core.List.{List}
+use mathlib.Core.Logic.{inl, inr, ⊎-elim}
+use Prim.Native.Nat.{ℕ, _+_, _*_, _≤_, _<_}
 use native.Mathlib.Omega.{arith}
-use lib.ListN.{length, getD, set, length-set}
-use lib.Seq.{getD-set-same, getD-set-other}
-use Rattle.automata.specs.Runs.{Events, Machine}
+use lib.ListN.{getD, set, length-set}
+use lib.Seq.{getD-set-other}
 use Rattle.automata.proofs.Runs.{Way, event, _then_, less}
-use Rattle.tables.specs.Table.{Table, machine, eventsOf, targetOf, weightBy}
+use Rattle.tables.specs.Table.{Table, machine, eventsOf, weightBy}
 use Rattle.rules.specs.Rules.{tableOf}
 use Rattle.scratch.proofs.Triangle.{eq-or-ne}
 use Rattle.quick_depths.specs.Leads.{leftAt, seenAt, Space}
-use Rattle.quick_depths.specs.Rounds.{Wide, Seen, ByEvent, From, Seeing, Spread}
+use Rattle.quick_depths.specs.Rounds.{Wide, Seen, ByEvent, From, Spread}
 
 pub wide-of : {n m : ℕ} {cells s : List ℕ} → Space n m cells s → Wide n s
 wide-of u = record { some = u .given .some; few = u .given .few; room = u .room }

@@ -529,7 +529,7 @@ fn endless_unless(
     }
 }
 
-// The leads of all rows, with the weights of events by a mask.
+// The leads of all rows: those that are reached, gone through in order, endless or not, and then swept until no lead rises.
 fn search(mask: u32, n: usize, m: usize, start: usize, cells: &[u16], scratch: &mut [u16])
     requires { ⌜ Space n m (now cells) (now scratch) × (start < n) ⌝ }
     ensures { λ _. ⌜ ((marks : List ℕ) → Found mask (tableOf n m start (now (cells .entry)) marks) (now (scratch .entry)) (now (scratch .exit))) ⌝ }
@@ -543,7 +543,7 @@ fn search(mask: u32, n: usize, m: usize, start: usize, cells: &[u16], scratch: &
     scratch::clear(scratch, 4 * n, 8 * n);
 }
 
-// The same. Answers false, and does nothing, unless the table is valid and scratch has 12 cells for each row.
+// The leads of all rows, with the weights of events by a mask. Answers false, and does nothing, unless the table is valid and scratch has 12 cells for each row.
 pub fn depths(
     mask: u32,
     rows: usize,

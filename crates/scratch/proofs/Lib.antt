@@ -4,3 +4,4 @@ pub mod RowStarts
 pub mod Pairs
 pub mod Works
 pub mod Soundness
+pub mod Order

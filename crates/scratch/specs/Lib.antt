@@ -1,3 +1,4 @@
 pub mod Scratch
+pub mod Order
 pub mod Folds
 pub mod Tests
