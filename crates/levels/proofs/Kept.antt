@@ -6,12 +6,12 @@ use Prim.Native.Nat.{ℕ, _+_, _-_, _≤_, _<_}
 use native.Mathlib.Omega.{arith}
 use native.Mathlib.Decide.{decLt}
 use lib.ListN.{length, getD, take, drop, length-append, length-take, length-drop, List·getD-append, take-append-drop}
-use lib.Seq.{take-add, take-all, getD-take, getD-drop, getD-append-add}
+use lib.Seq.{take-add, getD-take, getD-drop, getD-append-add}
 use Rattle.automata.specs.Runs.{Events, Machine}
 use Rattle.automata.proofs.Lists.{Pairwise}
 use Rattle.tables.specs.Table.{offset}
 use Rattle.tables.specs.Lists.{sift}
-use Rattle.tables.specs.Reduction.{order, similar, kept}
+use Rattle.tables.specs.Reduction.{order, similar}
 use Rattle.tables.proofs.Lists.{at-mem, mem-take, pairwise-at, subset-length, sift-more, ordered-nil, sift-ordered}
 use Rattle.levels.specs.Levels.{rowAt, ahead}
 use Rattle.levels.specs.Sweep.{keptTo, listed, Placed}
@@ -24,10 +24,6 @@ module _ (E : Events) (M : Machine) (k : ℕ) where
   pub kept-start : keptTo E M k 0 ≡ []
   unfolding keptTo sift
   kept-start = refl
-
-  pub kept-whole : (i : ℕ) → length (order E M) ≤ i → keptTo E M k i ≡ kept E M (offset k)
-  unfolding keptTo kept
-  kept-whole i h = ap (sift (similar E M (offset k)) []) (take-all i (order E M) h)
 
   -- They are among the first i of the order,
   pub kept-placed : (i h : ℕ) → h < length (keptTo E M k i) → (x : ℕ) × (x < i) × (x < length (order E M)) × (rowAt E M x ≡ getD (keptTo E M k i) h 0)

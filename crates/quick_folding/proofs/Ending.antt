@@ -70,7 +70,7 @@ module _ {T : Table} (mask : ℕ) {k : ℕ} {s : List ℕ} (f : Fits T k s) wher
         rows = λ x g b. omega (arith, l .order-from x g (omega arith), at-row E M x (omega arith));
       }
 
-  pub border-until : {i L r count : ℕ} → Laid E M i s → count ≡ length (order E M) → ((y : ℕ) → y < i → needAt E M k (rowAt E M y) ≤ L) → Until n k i count L s r → Border E M k L r
+  border-until : {i L r count : ℕ} → Laid E M i s → count ≡ length (order E M) → ((y : ℕ) → y < i → needAt E M k (rowAt E M y) ≤ L) → Until n k i count L s r → Border E M k L r
   border-until {i} {L} {r} l e olds u =
       border E M k L r (omega (arith, u .within))
       (λ p. elim (decLt (r - 1) i) [
@@ -137,7 +137,7 @@ module _ {T : Table} (mask : ℕ) {k : ℕ} {s t : List ℕ} (f : Fits T k s) (l
   behind : (x : ℕ) → 3 * T .rows ≤ x → getD t x 0 ≡ getD s x 0
   behind x h = ap (λ (z : List ℕ). getD z x 0) e ∙ cleared-behind s (2 * T .rows) (3 * T .rows) (omega arith) (omega (arith, room f)) x h
 
-  pub clear-apart : Apart (T .rows) s t
+  clear-apart : Apart (T .rows) s t
   clear-apart =
       record {
         size = ap length e ∙ cleared-length s (2 * T .rows) (3 * T .rows) (omega arith) (omega (arith, room f));
@@ -159,8 +159,11 @@ module _ {T : Table} (mask : ℕ) {k : ℕ} {s t : List ℕ} (f : Fits T k s) (l
               laid = clear-laid;
               many = sym (ap length (kept-start (eventsOf (weightBy mask) T) (machine T) k));
               listed = λ c h. absurd (omega arith);
-              low = λ q h. omega (arith, ap (λ (z : List ℕ). valueAt (T .rows) z q) e,
-                  cleared-inside s (2 * T .rows) (3 * T .rows) (omega arith) (omega (arith, room f)) (2 * T .rows + q) (omega arith) (omega arith));
+              low = λ q h. omega (
+                arith,
+                ap (λ (z : List ℕ). valueAt (T .rows) z q) e,
+                cleared-inside s (2 * T .rows) (3 * T .rows) (omega arith) (omega (arith, room f)) (2 * T .rows + q) (omega arith) (omega arith),
+              );
               labelled = record { inside = λ y h. absurd (omega arith); folds = λ y h. absurd (omega arith) };
             };
         to = omega arith;
@@ -170,9 +173,10 @@ module _ {T : Table} (mask : ℕ) {k : ℕ} {s t : List ℕ} (f : Fits T k s) (l
         led = led-none (eventsOf (weightBy mask) T) (machine T) k (0 - 1) (valueAt (T .rows) t);
       }
 
--- Nothing is known to be at rest after it.
-pub going-first : {E : Events} {M : Machine} {k L j u : ℕ} {rest : Bool} {s t : List ℕ} → After E M k L j s t u rest → Going E M k L j u false t
-going-first a = record { swept = a .swept; rests = λ e. absurd (false≢true e) }
+  -- Nothing is known to be at rest after it.
+  pub first-made : {j u : ℕ} {rest : Bool} {w : List ℕ} → After (eventsOf (weightBy mask) T) (machine T) k 0 j t w u rest
+      → Apart (T .rows) s w × Going (eventsOf (weightBy mask) T) (machine T) k 0 j u false w
+  first-made a = (apart-then clear-apart (a .apart), record { swept = a .swept; rests = λ z. absurd (false≢true z) })
 
 -- ---- the end
 pub folded : {E : Events} {M : Machine} {k L i u : ℕ} {rest : Bool} {s t : List ℕ} → Apart (M .rows) s t → Going E M k L i u rest t → length (order E M) ≤ i → Folded E M k s t

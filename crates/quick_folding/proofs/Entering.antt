@@ -8,7 +8,7 @@ use native.Mathlib.Omega.{arith}
 use native.Mathlib.Decide.{decLt}
 use lib.Dec.{eqb, eqb·suc-zero}
 use lib.ListN.{length, getD}
-use Rattle.automata.specs.Runs.{Events, Machine, Sound, Light, Near}
+use Rattle.automata.specs.Runs.{Events, Machine, Sound, Near}
 use Rattle.automata.proofs.Lists.{few}
 use Rattle.automata.proofs.Runs.{near-cast}
 use Rattle.tables.specs.Table.{Table, weightBy, machine, eventsOf}
@@ -32,7 +32,7 @@ use Rattle.classes.specs.Values.{Values, valuesBy, Given}
 use Rattle.classes.specs.Steps as Classes
 use Rattle.classes.proofs.Reading.{front-read}
 use Rattle.classes.proofs.AtLevel as Hand
-use Rattle.quick_folding.specs.Parts.{valueAt, listAt, Rows, Appendable, Appended}
+use Rattle.quick_folding.specs.Parts.{valueAt, listAt, Appendable, Appended}
 use Rattle.quick_folding.specs.State.{Fits, Before}
 
 -- One of the first values of f, or none of them.

@@ -196,7 +196,7 @@ module _ {T : Table} (mask : ℕ) {k L i j u : ℕ} {s : List ℕ} (v : Fits T k
           (λ e. ne (subst (λ (y : ℕ). f y ≡ y) (sym c) e))
 
       -- The kept rows so far, and the places behind them.
-      pub kept-so : (x : ℕ) → x ≤ j - i → (seats f u x ≡ length (keptTo E M k (i + x))) × ((c : ℕ) → c < seats f u x → listAt n t₄ c ≡ getD (keptTo E M k (i + x)) c 0)
+      kept-so : (x : ℕ) → x ≤ j - i → (seats f u x ≡ length (keptTo E M k (i + x))) × ((c : ℕ) → c < seats f u x → listAt n t₄ c ≡ getD (keptTo E M k (i + x)) c 0)
       kept-so zero h =
           let e : i ≡ i + 0 = omega arith in
           subst (λ (y : ℕ). (seats f u 0 ≡ length (keptTo E M k y)) × ((c : ℕ) → c < seats f u 0 → listAt n t₄ c ≡ getD (keptTo E M k y) c 0)) e (

@@ -42,13 +42,13 @@ module _ (f : ℕ → ℕ) (u : ℕ) where
   pub seats-le : (x y : ℕ) → x ≤ y → seats f u x ≤ seats f u y
   seats-le x y h = let e : x + (y - x) ≡ y = omega arith in omega (arith, ap (seats f u) e, seats-by x (y - x))
 
-  pub seats-lt : (x y : ℕ) → x < y → f (u + x) ≡ u + x → seats f u x < seats f u y
+  seats-lt : (x y : ℕ) → x < y → f (u + x) ≡ u + x → seats f u x < seats f u y
   seats-lt x y h e = omega (arith, seats-adds x e, seats-le (x + 1) y (omega arith))
 
   pub seats-low : (d : ℕ) → u ≤ seats f u d
   seats-low d = omega (arith, seats-none, seats-le 0 d (omega arith))
 
-  pub seats-high : (d : ℕ) → seats f u d ≤ u + d
+  seats-high : (d : ℕ) → seats f u d ≤ u + d
   seats-high zero = omega (arith, seats-none)
   seats-high (suc d) = omega (arith, seats-high d, seats-more d .1, ap (seats f u) (add-one d))
 
@@ -122,7 +122,7 @@ module _ {n u more d count : ℕ} {s t : List ℕ} (p : Takable n u more s) (k :
       }
 
   -- Its place.
-  pub seat-is : {t₁ : List ℕ} {at : ℕ} → Seated n u (u + d) count t t₁ at
+  seat-is : {t₁ : List ℕ} {at : ℕ} → Seated n u (u + d) count t t₁ at
       → (at ≡ seatOf f u (u + d)) × (((f (u + d) ≡ u + d) × (at ≡ count) × (t₁ ≡ set (set t (7 * n + (u + d)) count) (3 * n + count) (listAt n s (u + d)))) ⊎ ((f (u + d) ≡ u + d → ⊥) × (at < count) × (t₁ ≡ t)))
   seat-is {t₁} {at} (leading e g₁ r) =
       let g : f (u + d) ≡ u + d = sym leader-is ∙ e in

@@ -242,22 +242,11 @@ fn next_level(
         × Going E (machine T) k (r .level) (r .place) (r .kept) (r .rest) (now (scratch .exit))
         × (x .level < r .level) × (x .level < k)) ⌝ }
 {
-    let level = next(scratch, n, k, x.place, x.level, x.rest);
-    let j = until(scratch, n, k, x.place, count, level);
-    let made = any_level(
-        k,
-        mask,
-        n,
-        m,
-        start,
-        cells,
-        marks,
-        scratch,
-        level,
-        x.place,
-        j,
-        x.kept,
-    );
+    let i = x.place;
+    let u = x.kept;
+    let level = next(scratch, n, k, i, x.level, x.rest);
+    let j = until(scratch, n, k, i, count, level);
+    let made = any_level(k, mask, n, m, start, cells, marks, scratch, level, i, j, u);
     Stand {
         place: j,
         kept: made.kept,

@@ -1,5 +1,5 @@
 use Rattle.quick_folding.proofs.Entering.{shape}
-use Rattle.quick_folding.proofs.Ending.{apart-then, searching, clear-apart, clear-laid, clear-fits, before-first, going-first}
+use Rattle.quick_folding.proofs.Ending.{searching, clear-laid, clear-fits, before-first, first-made}
 use native.Mathlib.Omega.{arith}
 use borrow.Author.Needs.{needs}
 use Rattle.quick_folding.proofs.first_level.Statement.{statement}
@@ -30,8 +30,7 @@ returns c =
     let a = c .before .before .before .before .before .before .before .before .before .before .before .before .before .args in
     let p = c .before .before .before .before .before .before .before .before .before .before .before .before .before .pre in
     let e = c .before .before .before .before .before .before .before .before .clear .ensures in
-    let r = c .before .before .any-level .ensures in
-    (apart-then (clear-apart (a .mask) (p .0) (p .1) e) (r .apart), going-first r)
+    first-made (a .mask) (p .0) (p .1) e (c .before .before .any-level .ensures)
 
 pub first-level-spec : {M : Type 1} → statement M
 first-level-spec =
