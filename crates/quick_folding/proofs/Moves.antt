@@ -1,13 +1,13 @@
--- Rows moved down the list, and values written one by one.
+-- Rows moved down the list, values written one by one, the level that a row needs, and the row into which it folds.
 use mathlib.Core.Path.{_≡_, refl, sym, ap, subst, _∙_}
 use mathlib.Core.List.{List}
 use mathlib.Core.Logic.{⊎-elim}
 use Prim.Native.Nat.{ℕ, suc, _+_, _-_, _*_, _≤_, _<_}
 use native.Mathlib.Omega.{arith}
+use borrow.Author.Tests.{eq-eqb, ne-eqb}
 use lib.ListN.{length, getD, drop, set, length-set}
 use lib.Seq.{getD-drop, getD-set-same, getD-set-other}
 use Rattle.scratch.proofs.Triangle.{eq-or-ne}
-use borrow.Author.Tests.{eq-eqb, ne-eqb}
 use Rattle.splitting.specs.Places.{nxtAt}
 use Rattle.quick_folding.specs.Parts.{labelAt, listAt, valueAt, needCell, foldAt, Appendable, Appended, Valued, Labels}
 

@@ -4,7 +4,6 @@ use mathlib.Core.Bool.{Bool, true, false, not, true≢false, false≢true}
 use mathlib.Core.List.{List}
 use mathlib.Core.Logic.{_⊎_, inl, inr, ⊎-elim}
 use Prim.Native.Nat.{ℕ, _+_, _*_, _≤_, _<_}
-use native.Mathlib.Nat.{zero-add}
 use native.Mathlib.Omega.{arith}
 use borrow.Author.Tests.{eqb-false, not-true, not-false}
 use lib.Dec.{eqb}
@@ -20,13 +19,13 @@ use Rattle.rules.specs.Rules.{winch}
 use Rattle.rules.proofs.Shape.{Shape}
 use Rattle.scratch.specs.Scratch.{leadIn, lenCell, fewCells, workableIn}
 use Rattle.scratch.specs.Folds.{Folds}
+use Rattle.scratch.specs.Order.{orderOf}
 use Rattle.scratch.proofs.Works.{within-fine}
 use Rattle.scratch.proofs.Soundness.{within-shape}
+use Rattle.scratch.proofs.Order.{order-meaning}
 use Rattle.levels.specs.Levels.{far}
 use Rattle.levels.proofs.Folds.{fold-far}
-use Rattle.scratch.specs.Order.{orderOf}
 use Rattle.buckets.specs.Buckets as Buckets
-use Rattle.scratch.proofs.Order.{order-meaning}
 use Rattle.quick_depths.specs.Leads.{Found}
 use Rattle.quick_folding.specs.Parts.{foldAt, Valued, Labels}
 use Rattle.quick_folding.specs.State.{Fits, Laid, Folded}
