@@ -9,7 +9,6 @@ ghost use Rattle.tables.specs.Reduction.{reduced};
 ghost use Rattle.scratch.specs.Scratch.{cleared};
 ghost use Rattle.reduction.specs.Reduce.{roomChecks, verdict, Promise};
 ghost use Rattle.reduction.specs.Working.{workBy, Worked};
-
 use ways::Way;
 
 // The new row count, or the number and place of the first rule broken.
@@ -126,7 +125,15 @@ pub fn work(
         },
         rules::Verdict::Fine => {
             ways::fold_rows(
-                way, offset, mask, rows, events, start, cells, marks, scratch,
+                way,
+                offset,
+                mask,
+                rows,
+                events,
+                start,
+                cells,
+                marks,
+                scratch,
             );
             let left = renumbering::renumber(
                 rows,

@@ -55,7 +55,7 @@ module _ (cells s : List ℕ) (n m row count : ℕ) (T : Targets n m cells) (hc 
         many = hr ∙ ap length more;
         lined = subst (λ (l : List ℕ). Lined n l u) more hl;
         frame = frame-then (h .frame) (subst (λ (k : ℕ). Frame n k t u) (sym hr) hf)
-        (omega (arith, h .many, ap length list, sift-length eqb (x ∷ []) (lineIn n t c)));
+            (omega (arith, h .many, ap length list, sift-length eqb (x ∷ []) (lineIn n t c)));
       }
 
   -- All events.

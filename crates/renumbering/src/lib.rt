@@ -221,6 +221,13 @@ pub fn renumber(
         return 0;
     }
     renumber_within(
-        rows, events, start, cells, marks, scratch, newcells, newmarks,
+        rows,
+        events,
+        start,
+        cells,
+        marks,
+        scratch,
+        newcells,
+        newmarks,
     )
 }

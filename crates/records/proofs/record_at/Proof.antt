@@ -12,7 +12,6 @@ returns c =
 pub record-at-spec : {M : Type 1} → statement M
 record-at-spec =
     tie.close
-    
     (tie.spec
     (λ c κs. search needs)
     (λ c κs. search needs)

@@ -474,23 +474,23 @@ module _ {M : Type 1} (𝓤 : URA M) (H : Heap 𝓤) (A : Atoms 𝓤) (W : Given
         (
           goes-dropped 𝓤 H A W 6 (plain (λ _. Of.the-row)) yes (λ κs x f. refl),
           (
-          w,
-          (
-            n,
+            w,
             (
               n,
               (
                 n,
                 (
-                  c,
+                  n,
                   (
-                    m,
-                    (goes-gave-slice 𝓤 H A W 6 2 tt (plain (λ _. u16)), (goes-gave-slice 𝓤 H A W 6 3 tt (plain (λ _. u8)), (goes-gave-slice 𝓤 H A W 6 4 tt (plain (λ _. T.the-row)), (goes-gave-slice 𝓤 H A W 6 5 tt (plain (λ _. u16)), tt)))),
+                    c,
+                    (
+                      m,
+                      (goes-gave-slice 𝓤 H A W 6 2 tt (plain (λ _. u16)), (goes-gave-slice 𝓤 H A W 6 3 tt (plain (λ _. u8)), (goes-gave-slice 𝓤 H A W 6 4 tt (plain (λ _. T.the-row)), (goes-gave-slice 𝓤 H A W 6 5 tt (plain (λ _. u16)), tt)))),
+                    ),
                   ),
                 ),
               ),
             ),
-          ),
           ),
         ),
       )

@@ -57,6 +57,10 @@ use Rattle.rules.specs.declared.Offset as code-offset
 use Rattle.rules.specs.declared.Verdict.{Verdict}
 use Rattle.rules.proofs.Offset as Of
 use Rattle.rules.proofs.Offset.Laws as Of′
+use Rattle.ways.specs.Ways.{needOf}
+use Rattle.ways.specs.declared.Way as code-way
+use Rattle.ways.proofs.Way as Wy
+use Rattle.ways.proofs.Way.Laws as Wy′
 use Rattle.records.specs.declared.Record.{Record}
 use Rattle.records.proofs.Record as T
 use Rattle.records.proofs.Record.Laws as T′
@@ -64,7 +68,7 @@ use Rattle.reduction.specs.Reduce.{verdict, Promise}
 use Rattle.reducer.specs.Recorded.{recordsBy}
 use Rattle.reduction.specs.declared.Answer.{Answer}
 use Rattle.reducer.specs.declared.Outcome.{Outcome}
-use Rattle.reducer.proofs.Together.{four, four-then, four-on, four-off, nine, nine-then, nine-on, nine-off}
+use Rattle.reducer.proofs.Together.{four, four-then, four-on, four-off, ten, ten-then, ten-on, ten-off}
 use Rattle.reduction.proofs.Answer as An
 use Rattle.reduction.proofs.Answer.Laws as An′
 use Rattle.reducer.proofs.Outcome as Oc
@@ -88,7 +92,7 @@ ta = tyArray T′.mir 1024
 abbrev va : List Record → Val
 va xs = only (array-vals (LL.vals T.the-type T′.the-laws) xs)
 
--- at exit nothing is had of the offset, the given table and the given array; the three lent buffers were given up
+-- at exit nothing is had of the way, the offset, the given table and the given array; the three lent buffers were given up
 abbrev stayed : Stays (f.ended .signature .params) (f.ended .kept)
 stayed = (
   stay-dropped _ _,
@@ -104,7 +108,10 @@ stayed = (
             stay-dropped _ _,
             (
               stay-dropped _ _,
-              (gave-slice (2 ∷ []) tt (plain (λ _. u16)), (gave-slice (3 ∷ []) tt (plain (λ _. u8)), (stay-dropped _ _, (gave-slice (4 ∷ []) tt (plain (λ _. u16)), tt)))),
+              (
+                stay-dropped _ _,
+                (gave-slice (2 ∷ []) tt (plain (λ _. u16)), (gave-slice (3 ∷ []) tt (plain (λ _. u8)), (stay-dropped _ _, (gave-slice (4 ∷ []) tt (plain (λ _. u16)), tt)))),
+              ),
             ),
           ),
         ),
@@ -162,8 +169,11 @@ module _ {M : Type 1} (𝓤 : URA M) (H : Heap 𝓤) (A : Atoms 𝓤) (W : Given
       move ! (1 ∷ []) $ facts ! AR (Is AR) (shows 𝓤 H A AR) os (va os ∷ []) (λ is. check ! is $ use1 W (‵ (fat fullShare ta l 0 (va os))) (W .laws .raw-at fullShare ta l 0 (va os)) $ done !))
 
 module _ {M : Type 1} (𝓤 : URA M) (H : Heap 𝓤) (A : Atoms 𝓤) (W : Given 𝓤 H A) (at-mem : Memory → SProp 𝓤) (run : Routine → Fun 𝓤) (κ₀ κ₁ κ₂ κ₃ κ₄ : Lft) (q₀ q₁ q₂ q₃ q₄ : Share)
-    (k : code-offset.Offset) (mk rs es st : ℕ) (cs ms nc nm : RefT (List ℕ)) (xs : List Record) (sr : RefT (List ℕ)) (is : Is AR xs (va xs ∷ [])) where
-  -- the machine values: of the offset, and of a slice
+    (wy : code-way.Way) (k : code-offset.Offset) (mk rs es st : ℕ) (cs ms nc nm : RefT (List ℕ)) (xs : List Record) (sr : RefT (List ℕ)) (is : Is AR xs (va xs ∷ [])) where
+  -- the machine values: of the way, of the offset, and of a slice
+  abbrev vy : Val
+  vy = EL.val Wy.the-type Wy′.the-laws wy
+
   abbrev vk : Val
   vk = EL.val Of.the-type Of′.the-laws k
 
@@ -177,10 +187,10 @@ module _ {M : Type 1} (𝓤 : URA M) (H : Heap 𝓤) (A : Atoms 𝓤) (W : Given
   qs = (q₀, (q₁, (q₂, (q₃, (q₄, tt)))))
 
   abbrev a : Args f.signature κs
-  a = (k, (mk, (rs, (es, (st, (cs, (ms, (nc, (nm, (xs, (sr, tt)))))))))))
+  a = (wy, (k, (mk, (rs, (es, (st, (cs, (ms, (nc, (nm, (xs, (sr, tt))))))))))))
 
   abbrev vals : Vals f.signature κs
-  vals = (vk ∷ [], (vint w32 mk ∷ [], (vint w64 rs ∷ [], (vint w64 es ∷ [], (vint w64 st ∷ [], (vn cs ∷ [], (vn ms ∷ [], (vn nc ∷ [], (vn nm ∷ [], (va xs ∷ [], (vn sr ∷ [], tt)))))))))))
+  vals = (vy ∷ [], (vk ∷ [], (vint w32 mk ∷ [], (vint w64 rs ∷ [], (vint w64 es ∷ [], (vint w64 st ∷ [], (vn cs ∷ [], (vn ms ∷ [], (vn nc ∷ [], (vn nm ∷ [], (va xs ∷ [], (vn sr ∷ [], tt))))))))))))
 
   abbrev Post : Val → SProp 𝓤
   Post = walkOf 𝓤 H A f.ended stayed (f.clauses 𝓤 H A at-mem run) .post ((κs, qs, tt, a, vals), tt)
@@ -202,7 +212,7 @@ module _ {M : Type 1} (𝓤 : URA M) (H : Heap 𝓤) (A : Atoms 𝓤) (W : Given
   tab = tableOf rs es st (now cs) (now ms)
 
   abbrev verd : ℕ → Verdict
-  verd n = verdict mk tab (length (now nc)) (length (now nm)) n (length (now sr))
+  verd n = verdict (needOf wy) mk tab (length (now nc)) (length (now nm)) n (length (now sr))
 
   -- ---- the tokens: the first four lifetimes go to `reduce` together, before others
   abbrev Four : Item 𝓤
@@ -221,6 +231,9 @@ module _ {M : Type 1} (𝓤 : URA M) (H : Heap 𝓤) (A : Atoms 𝓤) (W : Given
   Last = ‵ (flft κ₄ q₄) ⊛ ‵ ftrue
 
   -- ---- what the parameters own: those before the array together
+  abbrev OY : Fml
+  OY = Wy.the-row .own wy (vy ∷ [])
+
   abbrev OK : Fml
   OK = Of.the-row .own k (vk ∷ [])
 
@@ -249,16 +262,16 @@ module _ {M : Type 1} (𝓤 : URA M) (H : Heap 𝓤) (A : Atoms 𝓤) (W : Given
   OS = MutSlice (named 4) κ₄ u16 .own sr (vn sr ∷ [])
 
   abbrev Front : Fml
-  Front = nine OK OW (OI rs) (OI es) (OI st) OC OM ONC ONM
+  Front = ten OY OK OW (OI rs) (OI es) (OI st) OC OM ONC ONM
 
   abbrev Params : Fml → Fml
-  Params Q = nine-then OK OW (OI rs) (OI es) (OI st) OC OM ONC ONM Q
+  Params Q = ten-then OY OK OW (OI rs) (OI es) (OI st) OC OM ONC ONM Q
 
   params-on : (Q : Fml) → ent 𝓤 (sem 𝓤 H A (fsep Front Q)) (sem 𝓤 H A (Params Q))
-  params-on Q = nine-on OK OW (OI rs) (OI es) (OI st) OC OM ONC ONM W Q
+  params-on Q = ten-on OY OK OW (OI rs) (OI es) (OI st) OC OM ONC ONM W Q
 
   params-off : (Q : Fml) → ent 𝓤 (sem 𝓤 H A (Params Q)) (sem 𝓤 H A (fsep Front Q))
-  params-off Q = nine-off OK OW (OI rs) (OI es) (OI st) OC OM ONC ONM W Q
+  params-off Q = ten-off OY OK OW (OI rs) (OI es) (OI st) OC OM ONC ONM W Q
 
   -- ---- the call of `reduce`: the local array at l, lent for ν under the name δ
   abbrev x : ℕ → GName → RefT (List Record)
@@ -274,7 +287,7 @@ module _ {M : Type 1} (𝓤 : URA M) (H : Heap 𝓤) (A : Atoms 𝓤) (W : Given
   lfts ν = (κ₀, (κ₁, (κ₂, (κ₃, (ν ∷ [], (κ₄, tt))))))
 
   abbrev args : (l ν : ℕ) → GName → Args reduce.signature (lfts ν)
-  args l ν δ = (k, (mk, (rs, (es, (st, (cs, (ms, (nc, (nm, (x l δ, (sr, tt)))))))))))
+  args l ν δ = (wy, (k, (mk, (rs, (es, (st, (cs, (ms, (nc, (nm, (x l δ, (sr, tt))))))))))))
 
   abbrev to : ℕ → ℕ → GName → Reduce 𝓤 H A at-mem run .Ghost
   to l ν δ = (
@@ -283,7 +296,7 @@ module _ {M : Type 1} (𝓤 : URA M) (H : Heap 𝓤) (A : Atoms 𝓤) (W : Given
       (q₀, (q₁, (q₂, (q₃, (fullShare, (q₄, tt)))))),
       tt,
       args l ν δ,
-      (vk ∷ [], (vint w32 mk ∷ [], (vint w64 rs ∷ [], (vint w64 es ∷ [], (vint w64 st ∷ [], (vn cs ∷ [], (vn ms ∷ [], (vn nc ∷ [], (vn nm ∷ [], (vx l ∷ [], (vn sr ∷ [], tt))))))))))),
+      (vy ∷ [], (vk ∷ [], (vint w32 mk ∷ [], (vint w64 rs ∷ [], (vint w64 es ∷ [], (vint w64 st ∷ [], (vn cs ∷ [], (vn ms ∷ [], (vn nc ∷ [], (vn nm ∷ [], (vx l ∷ [], (vn sr ∷ [], tt)))))))))))),
     ),
     tt,
   )
@@ -300,7 +313,7 @@ module _ {M : Type 1} (𝓤 : URA M) (H : Heap 𝓤) (A : Atoms 𝓤) (W : Given
 
   -- what `reduce` says at so many records
   abbrev Says : ℕ → Answer → List ℕ → List ℕ → List Record → List ℕ → Type 0
-  Says n r ns bs os us = Promise (verd n) off mk tab (now nc) (now nm) (now sr) r ns bs us × (os ≡ recordsBy (verd n) xs (recordsOf (weightBy mk) off tab))
+  Says n r ns bs os us = Promise (needOf wy) (verd n) off mk tab (now nc) (now nm) (now sr) r ns bs us × (os ≡ recordsBy (verd n) xs (recordsOf (weightBy mk) off tab))
 
   abbrev Long : List ℕ → List ℕ → List Record → List ℕ → Type 0
   Long ns bs os us = (length ns ≡ length (now nc)) × (length bs ≡ length (now nm)) × (length os ≡ length xs) × (length us ≡ length (now sr))
@@ -315,36 +328,36 @@ module _ {M : Type 1} (𝓤 : URA M) (H : Heap 𝓤) (A : Atoms 𝓤) (W : Given
       → ent 𝓤 (ensured 𝓤 H A reduce.ended (reduce.clauses 𝓤 H A at-mem run) (lfts ν) (args l ν δ) tt r) (mean 𝓤 H A (some (λ (ns : List ℕ). some (λ (bs : List ℕ). some (λ (os : List Record). some (λ (us : List ℕ). Reduced δ r ns bs os us))))))
   said l ν δ r =
       qed W (raw (ensured 𝓤 H A reduce.ended (reduce.clauses 𝓤 H A at-mem run) (lfts ν) (args l ν δ) tt r) ∷ []) ∵
-      use1 W (some (λ (z : Lasts reduce.ended (lfts ν) (args l ν δ)). ‵ (lasts reduce.ended (lfts ν) (args l ν δ) z) ⊛ raw (fact 𝓤 (Says (length xs) r (z .1 .1 .1 .1 .1 .1 .1 .0) (z .1 .1 .1 .1 .1 .1 .1 .1 .0) (z .1 .1 .1 .1 .1 .1 .1 .1 .1 .0) (z .1 .1 .1 .1 .1 .1 .1 .1 .1 .1 .0))))) (id⊢ 𝓤 _) $ pick ! (λ z.
-      split ! $ move ! (1 ∷ []) $ heard ! (Says (length xs) r (z .1 .1 .1 .1 .1 .1 .1 .0) (z .1 .1 .1 .1 .1 .1 .1 .1 .0) (z .1 .1 .1 .1 .1 .1 .1 .1 .1 .0) (z .1 .1 .1 .1 .1 .1 .1 .1 .1 .1 .0)) (λ e.
-      fsplit ! $ drop ! $ fsplit ! $ drop ! $ fsplit ! $ drop ! $ fsplit ! $ drop ! $ fsplit ! $ drop ! $ fsplit ! $ drop ! $ fsplit ! $ drop ! $ fsplit ! $ fsplit ! $ move ! (1 ∷ []) $ feqL ! (λ l₀. move ! (1 ∷ []) $ fsplit ! $ fsplit ! $ move ! (1 ∷ []) $ feqL ! (λ l₁. move ! (1 ∷ []) $ fsplit ! $ fsplit ! $ move ! (1 ∷ []) $ feqL ! (λ l₂.
+      use1 W (some (λ (z : Lasts reduce.ended (lfts ν) (args l ν δ)). ‵ (lasts reduce.ended (lfts ν) (args l ν δ) z) ⊛ raw (fact 𝓤 (Says (length xs) r (z .1 .1 .1 .1 .1 .1 .1 .1 .0) (z .1 .1 .1 .1 .1 .1 .1 .1 .1 .0) (z .1 .1 .1 .1 .1 .1 .1 .1 .1 .1 .0) (z .1 .1 .1 .1 .1 .1 .1 .1 .1 .1 .1 .0))))) (id⊢ 𝓤 _) $ pick ! (λ z.
+      split ! $ move ! (1 ∷ []) $ heard ! (Says (length xs) r (z .1 .1 .1 .1 .1 .1 .1 .1 .0) (z .1 .1 .1 .1 .1 .1 .1 .1 .1 .0) (z .1 .1 .1 .1 .1 .1 .1 .1 .1 .1 .0) (z .1 .1 .1 .1 .1 .1 .1 .1 .1 .1 .1 .0)) (λ e.
+      fsplit ! $ drop ! $ fsplit ! $ drop ! $ fsplit ! $ drop ! $ fsplit ! $ drop ! $ fsplit ! $ drop ! $ fsplit ! $ drop ! $ fsplit ! $ drop ! $ fsplit ! $ drop ! $ fsplit ! $ fsplit ! $ move ! (1 ∷ []) $ feqL ! (λ l₀. move ! (1 ∷ []) $ fsplit ! $ fsplit ! $ move ! (1 ∷ []) $ feqL ! (λ l₁. move ! (1 ∷ []) $ fsplit ! $ fsplit ! $ move ! (1 ∷ []) $ feqL ! (λ l₂.
       move ! (1 ∷ []) $ fsplit ! $ fsplit ! $ move ! (1 ∷ []) $ feqL ! (λ l₃.
       -- [the scratch's finally; true; the records' finally; the mark bytes'; the cells']
-      show ! (λ (ns : List ℕ). mean 𝓤 H A (some (λ (bs : List ℕ). some (λ (os : List Record). some (λ (us : List ℕ). Reduced δ r ns bs os us))))) (z .1 .1 .1 .1 .1 .1 .1 .0) $ show ! (λ (bs : List ℕ). mean 𝓤 H A (some (λ (os : List Record). some (λ (us : List ℕ). Reduced δ r (z .1 .1 .1 .1 .1 .1 .1 .0) bs os us)))) (z .1 .1 .1 .1 .1 .1 .1 .1 .0) $
-      show ! (λ (os : List Record). mean 𝓤 H A (some (λ (us : List ℕ). Reduced δ r (z .1 .1 .1 .1 .1 .1 .1 .0) (z .1 .1 .1 .1 .1 .1 .1 .1 .0) os us))) (z .1 .1 .1 .1 .1 .1 .1 .1 .1 .0) $ show ! (λ (us : List ℕ). mean 𝓤 H A (Reduced δ r (z .1 .1 .1 .1 .1 .1 .1 .0) (z .1 .1 .1 .1 .1 .1 .1 .1 .0) (z .1 .1 .1 .1 .1 .1 .1 .1 .1 .0) us)) (z .1 .1 .1 .1 .1 .1 .1 .1 .1 .1 .0) $ check ! e $ check ! (l₀, l₁, l₂, l₃) $ keep ! (2 ∷ 4 ∷ 3 ∷ 0 ∷ []) $ done !))))))
+      show ! (λ (ns : List ℕ). mean 𝓤 H A (some (λ (bs : List ℕ). some (λ (os : List Record). some (λ (us : List ℕ). Reduced δ r ns bs os us))))) (z .1 .1 .1 .1 .1 .1 .1 .1 .0) $ show ! (λ (bs : List ℕ). mean 𝓤 H A (some (λ (os : List Record). some (λ (us : List ℕ). Reduced δ r (z .1 .1 .1 .1 .1 .1 .1 .1 .0) bs os us)))) (z .1 .1 .1 .1 .1 .1 .1 .1 .1 .0) $
+      show ! (λ (os : List Record). mean 𝓤 H A (some (λ (us : List ℕ). Reduced δ r (z .1 .1 .1 .1 .1 .1 .1 .1 .0) (z .1 .1 .1 .1 .1 .1 .1 .1 .1 .0) os us))) (z .1 .1 .1 .1 .1 .1 .1 .1 .1 .1 .0) $ show ! (λ (us : List ℕ). mean 𝓤 H A (Reduced δ r (z .1 .1 .1 .1 .1 .1 .1 .1 .0) (z .1 .1 .1 .1 .1 .1 .1 .1 .1 .0) (z .1 .1 .1 .1 .1 .1 .1 .1 .1 .1 .0) us)) (z .1 .1 .1 .1 .1 .1 .1 .1 .1 .1 .1 .0) $ check ! e $ check ! (l₀, l₁, l₂, l₃) $ keep ! (2 ∷ 4 ∷ 3 ∷ 0 ∷ []) $ done !))))))
 
   -- ---- the exit
   exits : (r : Answer) (ns bs : List ℕ) (os : List Record) (us : List ℕ) → Says 1024 r ns bs os us → Long ns bs os us → Is Oc.the-row (res r os) (resv r os ∷ []) → ent 𝓤 (⋆ 𝓤 H A (Last ∷ Four ∷ Finals ns bs us ∷ [])) (Post (resv r os))
   exits r ns bs os us e l isR =
       qed W (Last ∷ Four ∷ Finals ns bs us ∷ []) ∵
       suffices ! _ (ends-at 𝓤 H A f.ended stayed (f.clauses 𝓤 H A at-mem run) W ((κs, qs, tt, a, vals), tt) (resv r os) (res r os)
-      (tt, (tt, (tt, (tt, (tt, (tt, (tt, (ns, (bs, (tt, (us, tt))))))))))) (tt, (tt, (tt, (tt, (tt, (tt, (tt, (l .0, (l .1, (tt, (l .3, tt)))))))))))) $ says ! e $
+      (tt, (tt, (tt, (tt, (tt, (tt, (tt, (tt, (ns, (bs, (tt, (us, tt)))))))))))) (tt, (tt, (tt, (tt, (tt, (tt, (tt, (tt, (l .0, (l .1, (tt, (l .3, tt))))))))))))) $ says ! e $
       move ! (1 ∷ 0 ∷ []) $ join ! $ use1 W (Tokens Last) (tokens-on Last) $ frame ! $ split ! $ move ! (1 ∷ []) $ split ! $
       -- [the mark bytes' finally; the scratch's; the cells']
       nothing ! $ move ! (2 ∷ 0 ∷ []) $ fjoin ! $ nothing ! $ fjoin ! $ move ! (1 ∷ 0 ∷ []) $ fjoin ! $ move ! (1 ∷ 0 ∷ []) $ fjoin ! $
-      nothing ! $ fjoin ! $ nothing ! $ fjoin ! $ nothing ! $ fjoin ! $ nothing ! $ fjoin ! $ nothing ! $ fjoin ! $ nothing ! $ fjoin ! $ nothing ! $ fjoin ! $
+      nothing ! $ fjoin ! $ nothing ! $ fjoin ! $ nothing ! $ fjoin ! $ nothing ! $ fjoin ! $ nothing ! $ fjoin ! $ nothing ! $ fjoin ! $ nothing ! $ fjoin ! $ nothing ! $ fjoin ! $
       owned ! Oc.the-row (Is Oc.the-row) (LL.makes Oc.the-type Oc′.the-plain 𝓤 H A) (res r os) _ isR $ move ! (1 ∷ 0 ∷ []) $ done !
 
   module _ (C : Calls 𝓤 H) (Λ : Loops 𝓤 H) (fm : FmC 𝓤 H (W .laws) C) (known : Triple 𝓤 (C #reduce) (Reduce 𝓤 H A at-mem run)) where
-    walk : Is Of.the-row k (vk ∷ []) → mk < 2 ^ 32 → rs < 2 ^ 64 → es < 2 ^ 64 → st < 2 ^ 64 → Room u16 (length (now cs)) → Room u8 (length (now ms)) → Room u16 (length (now nc)) → Room u8 (length (now nm)) → Room u16 (length (now sr))
-        → ent 𝓤 (onEntry 𝓤 H A f.signature κs qs a vals) (WpFn 𝓤 H C Λ code.function (vk ∷ vint w32 mk ∷ vint w64 rs ∷ vint w64 es ∷ vint w64 st ∷ vn cs ∷ vn ms ∷ vn nc ∷ vn nm ∷ va xs ∷ vn sr ∷ []) Post)
-    walk k-is mk-fits rs-fits es-fits st-fits c-room m-room nc-room nm-room s-room =
+    walk : Is Wy.the-row wy (vy ∷ []) → Is Of.the-row k (vk ∷ []) → mk < 2 ^ 32 → rs < 2 ^ 64 → es < 2 ^ 64 → st < 2 ^ 64 → Room u16 (length (now cs)) → Room u8 (length (now ms)) → Room u16 (length (now nc)) → Room u8 (length (now nm)) → Room u16 (length (now sr))
+        → ent 𝓤 (onEntry 𝓤 H A f.signature κs qs a vals) (WpFn 𝓤 H C Λ code.function (vy ∷ vk ∷ vint w32 mk ∷ vint w64 rs ∷ vint w64 es ∷ vint w64 st ∷ vn cs ∷ vn ms ∷ vn nc ∷ vn nm ∷ va xs ∷ vn sr ∷ []) Post)
+    walk y-is k-is mk-fits rs-fits es-fits st-fits c-room m-room nc-room nm-room s-room =
         qed W (Tokens Last ∷ ‵ (Params (fsep OA (fsep OS ftrue))) ∷ []) ∵ enter ! C Λ code.function _ _ $
-        alloc1 ! (λ l₀. alloc1 ! (λ l₁. alloc1 ! (λ l₂. alloc1 ! (λ l₃. alloc1 ! (λ l₄. alloc1 ! (λ l₅. alloc1 ! (λ l₆. alloc1 ! (λ l₇. alloc1 ! (λ l₈. alloc1 ! (λ l₉. alloc1 ! (λ l₁₀. alloc1 ! (λ l₁₁. alloc1 ! (λ l₁₂. alloc1 ! (λ l₁₃. alloc1 ! (λ l₁₄. alloc1 ! (λ l₁₅. alloc1 ! (λ l₁₆. alloc1 ! (λ l₁₇. alloc1 ! (λ l₁₈. alloc1 ! (λ l₁₉. alloc1 ! (λ l₂₀. alloc1 ! (λ l₂₁. alloc1 ! (λ l₂₂. alloc0 ! $ params1 ! $
-        pass1 ! (init ! 42 refl (EL.lawful Of.the-type Of′.the-laws 𝓤 H A W tt .typed k _ k-is .0)) $ pass1 ! (init ! 40 refl (tt, record { fits = mk-fits })) $ pass1 ! (init ! 38 refl (tt, record { fits = rs-fits })) $ pass1 ! (init ! 36 refl (tt, record { fits = es-fits })) $ pass1 ! (init ! 34 refl (tt, record { fits = st-fits })) $
+        alloc1 ! (λ l₀. alloc1 ! (λ l₁. alloc1 ! (λ l₂. alloc1 ! (λ l₃. alloc1 ! (λ l₄. alloc1 ! (λ l₅. alloc1 ! (λ l₆. alloc1 ! (λ l₇. alloc1 ! (λ l₈. alloc1 ! (λ l₉. alloc1 ! (λ l₁₀. alloc1 ! (λ l₁₁. alloc1 ! (λ l₁₂. alloc1 ! (λ l₁₃. alloc1 ! (λ l₁₄. alloc1 ! (λ l₁₅. alloc1 ! (λ l₁₆. alloc1 ! (λ l₁₇. alloc1 ! (λ l₁₈. alloc1 ! (λ l₁₉. alloc1 ! (λ l₂₀. alloc1 ! (λ l₂₁. alloc1 ! (λ l₂₂. alloc1 ! (λ l₂₃. alloc0 ! $ params1 ! $
+        pass1 ! (init ! 44 refl (EL.lawful Wy.the-type Wy′.the-laws 𝓤 H A W tt .typed wy _ y-is .0)) $ pass1 ! (init ! 42 refl (EL.lawful Of.the-type Of′.the-laws 𝓤 H A W tt .typed k _ k-is .0)) $ pass1 ! (init ! 40 refl (tt, record { fits = mk-fits })) $ pass1 ! (init ! 38 refl (tt, record { fits = rs-fits })) $ pass1 ! (init ! 36 refl (tt, record { fits = es-fits })) $ pass1 ! (init ! 34 refl (tt, record { fits = st-fits })) $
         pass1 ! (init ! 32 refl (tt, (tt, (record { fits = c-room .0 }, tt)))) $ pass1 ! (init ! 30 refl (tt, (tt, (record { fits = m-room .0 }, tt)))) $ pass1 ! (init ! 28 refl (tt, (tt, (record { fits = nc-room .0 }, tt)))) $ pass1 ! (init ! 26 refl (tt, (tt, (record { fits = nm-room .0 }, tt)))) $
         pass1 ! (init ! 24 refl (typed xs is)) $ pass1 ! (init ! 22 refl (tt, (tt, (record { fits = s-room .0 }, tt)))) $ pass0 ! $
-        -- [_22; …; _0 at 44; the tokens at 46; what the parameters own]
+        -- [_23; …; _0 at 46; the tokens at 48; what the parameters own]
         assigns ! (of-opd ! (load ! (from ! (stop !)) (look ! 24 refl))) (from ! (stop !)) (init ! 20 refl (typed xs is)) $
         assigns ! (addr ! (from ! (fld ! refl (hop ! (look-in ! 28 (sub ! 0 refl (whole !))) (stop !))))) (from ! (stop !)) (init ! 16 refl (tt, tt)) $
         assigns ! (agg ! (and-then ! (load ! (from ! (stop !)) (look ! 16 refl)) (and-then ! (load ! (from ! (fld ! refl (stop !))) (look-in ! 28 (sub ! 1 refl (whole !)))) (no-more !)))) (from ! (stop !)) (init ! 14 refl (tt, (tt, (record { fits = nc-room .0 }, tt)))) $
@@ -354,52 +367,55 @@ module _ {M : Type 1} (𝓤 : URA M) (H : Heap 𝓤) (A : Atoms 𝓤) (W : Given
         assigns ! (agg ! (and-then ! (load ! (from ! (stop !)) (look ! 8 refl)) (and-then ! (big-lit ! (record { fits = lit< tt })) (no-more !)))) (from ! (stop !)) (init ! 6 refl (tt, (tt, (record { fits = lit< tt }, tt)))) $
         assigns ! (addr ! (from ! (fld ! refl (hop ! (look-in ! 22 (sub ! 0 refl (whole !))) (stop !))))) (from ! (stop !)) (init ! 4 refl (tt, tt)) $
         assigns ! (agg ! (and-then ! (load ! (from ! (stop !)) (look ! 4 refl)) (and-then ! (load ! (from ! (fld ! refl (stop !))) (look-in ! 22 (sub ! 1 refl (whole !)))) (no-more !)))) (from ! (stop !)) (init ! 2 refl (tt, (tt, (record { fits = s-room .0 }, tt)))) $
-        rewrite ! 6 (λ (m : ℕ). ‵ (fat fullShare (sliceTy (tyRef erased mut (pointee (T.the-row .written)))) l₁₉ 0 (sliceVal (l₁₂, 0) m))) (sym len) refl $
+        rewrite ! 6 (λ (m : ℕ). ‵ (fat fullShare (sliceTy (tyRef erased mut (pointee (T.the-row .written)))) l₂₀ 0 (sliceVal (l₁₃, 0) m))) (sym len) refl $
         -- the array is lent for a lifetime ν
-        move ! (20 ∷ []) $ use1 W (‵ (cells (mem T.the-row) xs l₁₂ 0)) (into-mem 𝓤 H A W l₁₂ xs is) $ lft-new ! tt (λ ν. move ! (1 ∷ []) $
-        use1 W (later (some (λ (δ : GName). ‵ (Lent l₁₂ ν δ) ⊛ ‵ (flent (ν ∷ []) (Held T.the-row (length xs) l₁₂ 0 δ))))) (lends-slice 𝓤 H A W T.the-row (named 4) (ν ∷ []) xs l₁₂ 0 room) $ await ! tt $ pick ! (λ δ. split ! $
-        -- [the slice; the lender's part; ν's token; _22 at 3; …; what frees _12 at 23; _11 at 24; …; the tokens at 48; what the parameters own]
-        move ! (49 ∷ []) $ use1 W (‵ (fsep Front (fsep OA (fsep OS ftrue)))) (params-off (fsep OA (fsep OS ftrue))) $ fsplit ! $ move ! (1 ∷ []) $ fsplit ! $ drop ! $ move ! (2 ∷ 0 ∷ []) $ fjoin ! $ move ! (1 ∷ 0 ∷ []) $ fjoin ! $
-        -- [what is passed; the lender's part; ν's token; _22 at 3; …; the tokens at 48]
-        move ! (2 ∷ 48 ∷ 0 ∷ []) $ use3 W (raw (Reduce 𝓤 H A at-mem run .pre (to l₁₂ ν δ))) (goes l₁₂ ν δ) $
-        -- [what `reduce` asks; the lender's part; _22 at 2; …; _13 at 20; what frees _12 at 22; _11 at 23; …; _0 at 45]
-        calls-at ! fm (Reduce 𝓤 H A at-mem run) known (to l₁₂ ν δ) (and-then ! (load ! (from ! (stop !)) (look ! 43 refl)) (and-then ! (load ! (from ! (stop !)) (look ! 41 refl)) (and-then ! (load ! (from ! (stop !)) (look ! 39 refl)) (and-then ! (load ! (from ! (stop !)) (look ! 37 refl)) (and-then ! (load ! (from ! (stop !)) (look ! 35 refl))
-        (and-then ! (load ! (from ! (stop !)) (look ! 33 refl)) (and-then ! (load ! (from ! (stop !)) (look ! 31 refl)) (and-then ! (load ! (from ! (stop !)) (look ! 16 refl)) (and-then ! (load ! (from ! (stop !)) (look ! 12 refl)) (and-then ! (load ! (from ! (stop !)) (look ! 8 refl)) (and-then ! (load ! (from ! (stop !)) (look ! 4 refl)) (no-more !)))))))))))) (λ u.
-        use1 W (later (some (λ (r : Answer). (Tokens (Here ν) ⊛ ‵ (An.the-row .own r (u ∷ []))) ⊛ raw (ensured 𝓤 H A reduce.ended (reduce.clauses 𝓤 H A at-mem run) (lfts ν) (args l₁₂ ν δ) tt r)))) (id⊢ 𝓤 _) $ await ! tt $ pick ! (λ r.
-        split ! $ move ! (1 ∷ []) $ use1 W (some (λ (ns : List ℕ). some (λ (bs : List ℕ). some (λ (os : List Record). some (λ (us : List ℕ). Reduced δ r ns bs os us))))) (said l₁₂ ν δ r) $ pick ! (λ ns. pick ! (λ bs. pick ! (λ os. pick ! (λ us. learn ! (λ e. learn ! (λ l.
+        move ! (20 ∷ []) $ use1 W (‵ (cells (mem T.the-row) xs l₁₃ 0)) (into-mem 𝓤 H A W l₁₃ xs is) $ lft-new ! tt (λ ν. move ! (1 ∷ []) $
+        use1 W (later (some (λ (δ : GName). ‵ (Lent l₁₃ ν δ) ⊛ ‵ (flent (ν ∷ []) (Held T.the-row (length xs) l₁₃ 0 δ))))) (lends-slice 𝓤 H A W T.the-row (named 4) (ν ∷ []) xs l₁₃ 0 room) $ await ! tt $ pick ! (λ δ. split ! $
+        -- [the slice; the lender's part; ν's token; _23 at 3; …; what frees _13 at 23; _12 at 24; …; the tokens at 50; what the parameters own]
+        move ! (51 ∷ []) $ use1 W (‵ (fsep Front (fsep OA (fsep OS ftrue)))) (params-off (fsep OA (fsep OS ftrue))) $ fsplit ! $ move ! (1 ∷ []) $ fsplit ! $ drop ! $ move ! (2 ∷ 0 ∷ []) $ fjoin ! $ move ! (1 ∷ 0 ∷ []) $ fjoin ! $
+        -- [what is passed; the lender's part; ν's token; _23 at 3; …; the tokens at 50]
+        move ! (2 ∷ 50 ∷ 0 ∷ []) $ use3 W (raw (Reduce 𝓤 H A at-mem run .pre (to l₁₃ ν δ))) (goes l₁₃ ν δ) $
+        -- [what `reduce` asks; the lender's part; _23 at 2; …; _14 at 20; what frees _13 at 22; _12 at 23; …; _0 at 47]
+        calls-at ! fm (Reduce 𝓤 H A at-mem run) known (to l₁₃ ν δ) (and-then ! (load ! (from ! (stop !)) (look ! 45 refl)) (and-then ! (load ! (from ! (stop !)) (look ! 43 refl)) (and-then ! (load ! (from ! (stop !)) (look ! 41 refl)) (and-then ! (load ! (from ! (stop !)) (look ! 39 refl)) (and-then ! (load ! (from ! (stop !)) (look ! 37 refl)) (and-then ! (load ! (from ! (stop !)) (look ! 35 refl))
+        (and-then ! (load ! (from ! (stop !)) (look ! 33 refl)) (and-then ! (load ! (from ! (stop !)) (look ! 31 refl)) (and-then ! (load ! (from ! (stop !)) (look ! 16 refl)) (and-then ! (load ! (from ! (stop !)) (look ! 12 refl)) (and-then ! (load ! (from ! (stop !)) (look ! 8 refl)) (and-then ! (load ! (from ! (stop !)) (look ! 4 refl)) (no-more !))))))))))))) (λ u.
+        use1 W (later (some (λ (r : Answer). (Tokens (Here ν) ⊛ ‵ (An.the-row .own r (u ∷ []))) ⊛ raw (ensured 𝓤 H A reduce.ended (reduce.clauses 𝓤 H A at-mem run) (lfts ν) (args l₁₃ ν δ) tt r)))) (id⊢ 𝓤 _) $ await ! tt $ pick ! (λ r.
+        split ! $ move ! (1 ∷ []) $ use1 W (some (λ (ns : List ℕ). some (λ (bs : List ℕ). some (λ (os : List Record). some (λ (us : List ℕ). Reduced δ r ns bs os us))))) (said l₁₃ ν δ r) $ pick ! (λ ns. pick ! (λ bs. pick ! (λ os. pick ! (λ us. learn ! (λ e. learn ! (λ l.
         split ! $ move ! (2 ∷ []) $ split ! $ move ! (1 ∷ []) $ facts ! An.the-row (Is An.the-row) (shows 𝓤 H A An.the-row) r (u ∷ []) (λ is₁.
-        -- [the tokens; the records' finally; the others'; the lender's part; _22 at 4; …; _13 at 22]
-        land ! (from ! (stop !)) (init ! 22 refl (EL.lawful An.the-type An′.the-laws 𝓤 H A W tt .typed r _ is₁ .0)) $ rewrite ! 22 (λ (t : Val). ‵ (fat fullShare An′.mir l₁₃ 0 t)) (ap only (EL.tells An.the-type An′.the-laws r _ is₁)) refl $
+        -- [the tokens; the records' finally; the others'; the lender's part; _23 at 4; …; _14 at 22]
+        land ! (from ! (stop !)) (init ! 22 refl (EL.lawful An.the-type An′.the-laws 𝓤 H A W tt .typed r _ is₁ .0)) $ rewrite ! 22 (λ (t : Val). ‵ (fat fullShare An′.mir l₁₄ 0 t)) (ap only (EL.tells An.the-type An′.the-laws r _ is₁)) refl $
         use1 W (Four ⊛ Here ν) (tokens-off (Here ν)) $ split ! $ move ! (1 ∷ []) $ split ! $ lft-end ! tt $
-        -- [ν is dead; the scratch's token; Four; the records' finally; the others'; the lender's part; _22 at 6; …]: the array comes back
-        move ! (0 ∷ 5 ∷ 3 ∷ []) $ use3 W (later (‵ (Arr (mem T.the-row) (length xs) .lies os l₁₂ 0))) (slice-back 𝓤 H A W T.the-row (ν ∷ []) δ os (length xs) l₁₂ 0) $ await ! tt $ fsplit ! $ drop ! $
-        use1 W (given (Is AR os (va os ∷ [])) (‵ (fat fullShare ta l₁₂ 0 (va os)))) (out-mem 𝓤 H A W l₁₂ os (l .2 ∙ len)) $ learn ! (λ is₂.
-        -- [_12; the scratch's token; Four; the others' finally; _22 at 4; …; _13 at 22; …; what frees _12 at 24; _11 at 25; …; _0 at 47]
+        -- [ν is dead; the scratch's token; Four; the records' finally; the others'; the lender's part; _23 at 6; …]: the array comes back
+        move ! (0 ∷ 5 ∷ 3 ∷ []) $ use3 W (later (‵ (Arr (mem T.the-row) (length xs) .lies os l₁₃ 0))) (slice-back 𝓤 H A W T.the-row (ν ∷ []) δ os (length xs) l₁₃ 0) $ await ! tt $ fsplit ! $ drop ! $
+        use1 W (given (Is AR os (va os ∷ [])) (‵ (fat fullShare ta l₁₃ 0 (va os)))) (out-mem 𝓤 H A W l₁₃ os (l .2 ∙ len)) $ learn ! (λ is₂.
+        -- [_13; the scratch's token; Four; the others' finally; _23 at 4; …; _14 at 22; …; what frees _13 at 24; _12 at 25; …; _0 at 49]
         assigns ! (of-opd ! (load ! (from ! (stop !)) (look ! 0 refl))) (from ! (stop !)) (init ! 4 refl (typed os is₂)) $
-        assigns ! (agg ! (and-then ! (load ! (from ! (stop !)) (look ! 22 refl)) (and-then ! (load ! (from ! (stop !)) (look ! 4 refl)) (no-more !)))) (from ! (stop !)) (init ! 47 refl (LL.lawful Oc.the-type Oc′.the-laws 𝓤 H A W .typed (res r os) _ (made r os (spelled r u is₁) is₂) .0)) $
-        returns ! (look ! 47 refl) $ forget ! 0 refl $ forget ! 4 refl $ forget ! 6 refl $ forget ! 8 refl $ forget ! 10 refl $ forget ! 12 refl $ forget ! 14 refl $ forget ! 16 refl $ forget ! 18 refl $ forget ! 20 refl $ forget ! 22 refl $ forget ! 25 refl $ forget ! 27 refl $ forget ! 29 refl $ forget ! 31 refl $ forget ! 33 refl $ forget ! 35 refl $ forget ! 37 refl $ forget ! 39 refl $ forget ! 41 refl $ forget ! 43 refl $ forget ! 45 refl $ forget ! 47 refl $
-        move ! (47 ∷ 48 ∷ []) $ free1 ! $ move ! (45 ∷ 46 ∷ []) $ free1 ! $ move ! (43 ∷ 44 ∷ []) $ free1 ! $ move ! (41 ∷ 42 ∷ []) $ free1 ! $ move ! (39 ∷ 40 ∷ []) $ free1 ! $ move ! (37 ∷ 38 ∷ []) $ free1 ! $ move ! (35 ∷ 36 ∷ []) $ free1 ! $ move ! (33 ∷ 34 ∷ []) $ free1 ! $ move ! (31 ∷ 32 ∷ []) $ free1 ! $ move ! (29 ∷ 30 ∷ []) $ free1 ! $ move ! (27 ∷ 28 ∷ []) $ free1 ! $ move ! (25 ∷ 26 ∷ []) $ free1 ! $ move ! (0 ∷ 24 ∷ []) $ free1 ! $ move ! (21 ∷ 22 ∷ []) $ free1 ! $ move ! (19 ∷ 20 ∷ []) $ free1 ! $ move ! (17 ∷ 18 ∷ []) $ free1 ! $ move ! (15 ∷ 16 ∷ []) $ free1 ! $ move ! (13 ∷ 14 ∷ []) $ free1 ! $ move ! (11 ∷ 12 ∷ []) $ free1 ! $ move ! (9 ∷ 10 ∷ []) $ free1 ! $ move ! (7 ∷ 8 ∷ []) $ free1 ! $ move ! (5 ∷ 6 ∷ []) $ free1 ! $ move ! (3 ∷ 4 ∷ []) $ free1 ! $ free0 ! $
-        by ! (exits r ns bs os us (subst (λ (n : ℕ). Says n r ns bs os us) len e) l (made r os (spelled r u is₁) is₂)))))))))))))))))))))))))))))))))))))
+        assigns ! (agg ! (and-then ! (load ! (from ! (stop !)) (look ! 22 refl)) (and-then ! (load ! (from ! (stop !)) (look ! 4 refl)) (no-more !)))) (from ! (stop !)) (init ! 49 refl (LL.lawful Oc.the-type Oc′.the-laws 𝓤 H A W .typed (res r os) _ (made r os (spelled r u is₁) is₂) .0)) $
+        returns ! (look ! 49 refl) $ forget ! 0 refl $ forget ! 4 refl $ forget ! 6 refl $ forget ! 8 refl $ forget ! 10 refl $ forget ! 12 refl $ forget ! 14 refl $ forget ! 16 refl $ forget ! 18 refl $ forget ! 20 refl $ forget ! 22 refl $ forget ! 25 refl $ forget ! 27 refl $ forget ! 29 refl $ forget ! 31 refl $ forget ! 33 refl $ forget ! 35 refl $ forget ! 37 refl $ forget ! 39 refl $ forget ! 41 refl $ forget ! 43 refl $ forget ! 45 refl $ forget ! 47 refl $ forget ! 49 refl $
+        move ! (49 ∷ 50 ∷ []) $ free1 ! $ move ! (47 ∷ 48 ∷ []) $ free1 ! $ move ! (45 ∷ 46 ∷ []) $ free1 ! $ move ! (43 ∷ 44 ∷ []) $ free1 ! $ move ! (41 ∷ 42 ∷ []) $ free1 ! $ move ! (39 ∷ 40 ∷ []) $ free1 ! $ move ! (37 ∷ 38 ∷ []) $ free1 ! $ move ! (35 ∷ 36 ∷ []) $ free1 ! $ move ! (33 ∷ 34 ∷ []) $ free1 ! $ move ! (31 ∷ 32 ∷ []) $ free1 ! $ move ! (29 ∷ 30 ∷ []) $ free1 ! $ move ! (27 ∷ 28 ∷ []) $ free1 ! $ move ! (25 ∷ 26 ∷ []) $ free1 ! $ move ! (0 ∷ 24 ∷ []) $ free1 ! $ move ! (21 ∷ 22 ∷ []) $ free1 ! $ move ! (19 ∷ 20 ∷ []) $ free1 ! $ move ! (17 ∷ 18 ∷ []) $ free1 ! $ move ! (15 ∷ 16 ∷ []) $ free1 ! $ move ! (13 ∷ 14 ∷ []) $ free1 ! $ move ! (11 ∷ 12 ∷ []) $ free1 ! $ move ! (9 ∷ 10 ∷ []) $ free1 ! $ move ! (7 ∷ 8 ∷ []) $ free1 ! $ move ! (5 ∷ 6 ∷ []) $ free1 ! $ move ! (3 ∷ 4 ∷ []) $ free1 ! $ free0 ! $
+        by ! (exits r ns bs os us (subst (λ (n : ℕ). Says n r ns bs os us) len e) l (made r os (spelled r u is₁) is₂))))))))))))))))))))))))))))))))))))))
 
 module _ {M : Type 1} (𝓤 : URA M) (H : Heap 𝓤) (A : Atoms 𝓤) (W : Given 𝓤 H A) (mem : Memory → SProp 𝓤) (run : Routine → Fun 𝓤) (𝓣 : Tables 𝓤 H) (known : Triple 𝓤 (𝓣 .C #reduce) (Reduce 𝓤 H A mem run)) where
   reduce-recorded-walks : Walks 𝓤 H A f.ended stayed (WpFn 𝓤 H (𝓣 .C) (𝓣 .Λ) code.function) (f.clauses 𝓤 H A mem run)
   reduce-recorded-walks = walked 𝓤 H A f.ended stayed (f.clauses 𝓤 H A mem run) (WpFn 𝓤 H (𝓣 .C) (𝓣 .Λ) code.function)
-      (λ κs. (EL.vals Of.the-type Of′.the-laws, (uint-vals w32, (uint-vals w64, (uint-vals w64, (uint-vals w64, (slice-vals, (slice-vals, (slice-vals, (slice-vals, (array-vals (LL.vals T.the-type T′.the-laws), (slice-vals, tt))))))))))))
+      (λ κs. (EL.vals Wy.the-type Wy′.the-laws, (EL.vals Of.the-type Of′.the-laws, (uint-vals w32, (uint-vals w64, (uint-vals w64, (uint-vals w64, (slice-vals, (slice-vals, (slice-vals, (slice-vals, (array-vals (LL.vals T.the-type T′.the-laws), (slice-vals, tt)))))))))))))
       (λ κs. (
-        EL.tells Of.the-type Of′.the-laws,
+        EL.tells Wy.the-type Wy′.the-laws,
         (
-          uint-tells w32,
+          EL.tells Of.the-type Of′.the-laws,
           (
-            uint-tells w64,
+            uint-tells w32,
             (
               uint-tells w64,
               (
                 uint-tells w64,
                 (
-                  shr-slice-tells (named 0) (κs .0) u16,
+                  uint-tells w64,
                   (
-                    shr-slice-tells (named 1) (κs .1 .0) u8,
-                    (mut-slice-tells (named 2) (κs .1 .1 .0) u16, (mut-slice-tells (named 3) (κs .1 .1 .1 .0) u8, (array-tells T.the-row (LL.vals T.the-type T′.the-laws) (LL.tells T.the-type T′.the-laws) 1024, (mut-slice-tells (named 4) (κs .1 .1 .1 .1 .0) u16, tt)))),
+                    shr-slice-tells (named 0) (κs .0) u16,
+                    (
+                      shr-slice-tells (named 1) (κs .1 .0) u8,
+                      (mut-slice-tells (named 2) (κs .1 .1 .0) u16, (mut-slice-tells (named 3) (κs .1 .1 .1 .0) u8, (array-tells T.the-row (LL.vals T.the-type T′.the-laws) (LL.tells T.the-type T′.the-laws) 1024, (mut-slice-tells (named 4) (κs .1 .1 .1 .1 .0) u16, tt)))),
+                    ),
                   ),
                 ),
               ),
@@ -409,9 +425,9 @@ module _ {M : Type 1} (𝓤 : URA M) (H : Heap 𝓤) (A : Atoms 𝓤) (W : Given
       ))
       (λ κs qs bounds a g are. via 𝓤 _ (fst∗ 𝓤 _ (emp 𝓤))
       (walk 𝓤 H A W mem run (κs .0) (κs .1 .0) (κs .1 .1 .0) (κs .1 .1 .1 .0) (κs .1 .1 .1 .1 .0) (qs .0) (qs .1 .0) (qs .1 .1 .0) (qs .1 .1 .1 .0) (qs .1 .1 .1 .1 .0)
-      (a .0) (a .1 .0) (a .1 .1 .0) (a .1 .1 .1 .0) (a .1 .1 .1 .1 .0) (a .1 .1 .1 .1 .1 .0) (a .1 .1 .1 .1 .1 .1 .0) (a .1 .1 .1 .1 .1 .1 .1 .0) (a .1 .1 .1 .1 .1 .1 .1 .1 .0) (a .1 .1 .1 .1 .1 .1 .1 .1 .1 .0) (a .1 .1 .1 .1 .1 .1 .1 .1 .1 .1 .0)
-      (are .1 .1 .1 .1 .1 .1 .1 .1 .1 .0) (𝓣 .C) (𝓣 .Λ) (fmOf 𝓤 H (W .laws) 𝓣) known
-      (are .0) (are .1 .0 .1) (are .1 .1 .0 .1) (are .1 .1 .1 .0 .1) (are .1 .1 .1 .1 .0 .1) (are .1 .1 .1 .1 .1 .0 .0 .1) (are .1 .1 .1 .1 .1 .1 .0 .0 .1) (are .1 .1 .1 .1 .1 .1 .1 .0 .0 .1) (are .1 .1 .1 .1 .1 .1 .1 .1 .0 .0 .1) (are .1 .1 .1 .1 .1 .1 .1 .1 .1 .1 .0 .0 .1)))
+      (a .0) (a .1 .0) (a .1 .1 .0) (a .1 .1 .1 .0) (a .1 .1 .1 .1 .0) (a .1 .1 .1 .1 .1 .0) (a .1 .1 .1 .1 .1 .1 .0) (a .1 .1 .1 .1 .1 .1 .1 .0) (a .1 .1 .1 .1 .1 .1 .1 .1 .0) (a .1 .1 .1 .1 .1 .1 .1 .1 .1 .0) (a .1 .1 .1 .1 .1 .1 .1 .1 .1 .1 .0) (a .1 .1 .1 .1 .1 .1 .1 .1 .1 .1 .1 .0)
+      (are .1 .1 .1 .1 .1 .1 .1 .1 .1 .1 .0) (𝓣 .C) (𝓣 .Λ) (fmOf 𝓤 H (W .laws) 𝓣) known
+      (are .0) (are .1 .0) (are .1 .1 .0 .1) (are .1 .1 .1 .0 .1) (are .1 .1 .1 .1 .0 .1) (are .1 .1 .1 .1 .1 .0 .1) (are .1 .1 .1 .1 .1 .1 .0 .0 .1) (are .1 .1 .1 .1 .1 .1 .1 .0 .0 .1) (are .1 .1 .1 .1 .1 .1 .1 .1 .0 .0 .1) (are .1 .1 .1 .1 .1 .1 .1 .1 .1 .0 .0 .1) (are .1 .1 .1 .1 .1 .1 .1 .1 .1 .1 .1 .0 .0 .1)))
 
   gone : AllGo 𝓤 H A W 5 (f.ended .signature .params) (f.ended .kept) stayed
   gone =
@@ -419,20 +435,23 @@ module _ {M : Type 1} (𝓤 : URA M) (H : Heap 𝓤) (A : Atoms 𝓤) (W : Given
       let w = goes-dropped 𝓤 H A W 5 (plain (λ _. u32)) yes (λ κs x f. refl) in
       let c = goes-dropped 𝓤 H A W 5 (shrSliceOf (0 ∷ []) tt (plain (λ _. u16))) yes (λ κs x f. refl) in
       let m = goes-dropped 𝓤 H A W 5 (shrSliceOf (1 ∷ []) tt (plain (λ _. u8))) yes (λ κs x f. refl) in (
-        goes-dropped 𝓤 H A W 5 (plain (λ _. Of.the-row)) yes (λ κs x f. refl),
+        goes-dropped 𝓤 H A W 5 (plain (λ _. Wy.the-row)) yes (λ κs x f. refl),
         (
-          w,
+          goes-dropped 𝓤 H A W 5 (plain (λ _. Of.the-row)) yes (λ κs x f. refl),
           (
-            n,
+            w,
             (
               n,
               (
                 n,
                 (
-                  c,
+                  n,
                   (
-                    m,
-                    (goes-gave-slice 𝓤 H A W 5 2 tt (plain (λ _. u16)), (goes-gave-slice 𝓤 H A W 5 3 tt (plain (λ _. u8)), (goes-dropped 𝓤 H A W 5 (plain (λ _. AR)) yes (λ κs x f. refl), (goes-gave-slice 𝓤 H A W 5 4 tt (plain (λ _. u16)), tt)))),
+                    c,
+                    (
+                      m,
+                      (goes-gave-slice 𝓤 H A W 5 2 tt (plain (λ _. u16)), (goes-gave-slice 𝓤 H A W 5 3 tt (plain (λ _. u8)), (goes-dropped 𝓤 H A W 5 (plain (λ _. AR)) yes (λ κs x f. refl), (goes-gave-slice 𝓤 H A W 5 4 tt (plain (λ _. u16)), tt)))),
+                    ),
                   ),
                 ),
               ),

@@ -24,7 +24,6 @@ returns-2 c =
 pub fold-of-spec : {M : Type 1} → statement M
 fold-of-spec =
     tie.close
-    
     (tie.spec
     (λ c. search needs)
     (λ c. search needs)

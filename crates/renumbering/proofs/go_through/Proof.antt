@@ -82,7 +82,6 @@ returns c =
 pub go-through-spec : {M : Type 1} → statement M
 go-through-spec =
     tie.close
-    
     (tie.spec
     Inv-loop
     μ-loop

@@ -34,7 +34,6 @@ returns-2 c =
 pub join-spec : {M : Type 1} → statement M
 join-spec =
     tie.close
-    
     (tie.spec
     (λ c. search needs)
     (λ c. search needs)

@@ -47,7 +47,6 @@ returns c =
 pub line-up-spec : {M : Type 1} → statement M
 line-up-spec =
     tie.close
-    
     (tie.spec
     mul-clear
     mul-clear-2

@@ -76,7 +76,6 @@ returns c =
 pub meet-spec : {M : Type 1} → statement M
 meet-spec =
     tie.close
-    
     (tie.spec
     Inv-loop
     μ-loop

@@ -18,7 +18,6 @@ returns-2 c =
 pub new-mark-spec : {M : Type 1} → statement M
 new-mark-spec =
     tie.close
-    
     (tie.spec
     (λ c. search needs)
     (λ c. search needs)

@@ -56,7 +56,6 @@ returns-2 c =
 pub new-target-spec : {M : Type 1} → statement M
 new-target-spec =
     tie.close
-    
     (tie.spec
     (λ c. search needs)
     (λ c. search needs)

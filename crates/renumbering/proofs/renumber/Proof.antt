@@ -69,7 +69,6 @@ returns-5 c =
 pub renumber-spec : {M : Type 1} → statement M
 renumber-spec =
     tie.close
-    
     (tie.spec
     (λ c κs. search needs)
     returns

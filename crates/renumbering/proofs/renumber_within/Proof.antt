@@ -44,7 +44,6 @@ returns c =
 pub renumber-within-spec : {M : Type 1} → statement M
 renumber-within-spec =
     tie.close
-    
     (tie.spec
     (λ c κs. search needs)
     write-cells-requires

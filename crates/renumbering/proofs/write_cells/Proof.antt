@@ -96,7 +96,6 @@ returns c =
 pub write-cells-spec : {M : Type 1} → statement M
 write-cells-spec =
     tie.close
-    
     (tie.spec
     Inv-loop
     μ-loop

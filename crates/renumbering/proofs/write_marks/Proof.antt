@@ -43,7 +43,6 @@ returns c =
 pub write-marks-spec : {M : Type 1} → statement M
 write-marks-spec =
     tie.close
-    
     (tie.spec
     Inv-loop
     μ-loop

@@ -33,7 +33,6 @@ returns-3 c =
 pub fold-levels-spec : {M : Type 1} → statement M
 fold-levels-spec =
     tie.close
-    
     (tie.spec
     returns
     (λ c. search needs)

@@ -49,7 +49,6 @@ returns-2 c =
 pub fold-pairs-spec : {M : Type 1} → statement M
 fold-pairs-spec =
     tie.close
-    
     (tie.spec
     (λ c κs. search needs)
     cast-pair-cells

@@ -27,7 +27,6 @@ returns-2 c =
 pub fold-rows-spec : {M : Type 1} → statement M
 fold-rows-spec =
     tie.close
-    
     (tie.spec
     (λ c. search needs)
     (λ c κs. search needs)

@@ -59,7 +59,6 @@ returns c =
 pub move-down-spec : {M : Type 1} → statement M
 move-down-spec =
     tie.close
-    
     (tie.spec
     Inv-loop
     μ-loop

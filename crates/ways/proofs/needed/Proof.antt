@@ -21,7 +21,6 @@ returns-2 c =
 pub needed-spec : {M : Type 1} → statement M
 needed-spec =
     tie.close
-    
     (tie.spec
     (λ c. search needs)
     (λ c κs. search needs)
