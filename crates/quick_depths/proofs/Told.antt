@@ -26,7 +26,7 @@ pub found-small : {mask : ℕ} {T : Table} {s t : List ℕ} → Found mask T s t
 found-small {mask} {T} f q h =
     subst (λ (x : ℕ). (x ≤ T .rows) ⊎ (x ≡ 65535)) (sym (f .leads q h)) (lead-small (T .rows) (lead (eventsOf (weightBy mask) T) (machine T) q) (lead-below (eventsOf (weightBy mask) T) (machine T) q))
 
--- What the public function promises, answering r.
+-- What the contract says of the answer r.
 abbrev pub Promise : ℕ → Table → List ℕ → List ℕ → Bool → Type 0
 Promise mask T s t r = (r ≡ workableIn fewCells T (length s)) × (r ≡ true → Found mask T s t) × (r ≡ false → t ≡ s)
 

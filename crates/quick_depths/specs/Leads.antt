@@ -46,7 +46,7 @@ pub record Grows (mask n m : ℕ) (cells s t : List ℕ) : Type 0 where
   pub kept : Kept n s t
   pub grown : (start : ℕ) (marks : List ℕ) → Grown mask (tableOf n m start cells marks) s t
 
--- The same before the first event.
+-- Before the first event nothing else has changed either, and only the start has a lead.
 pub record Begun (n start : ℕ) (s t : List ℕ) : Type 0 where
   pub kept : Kept n s t
   pub started : Started n start t
