@@ -1,4 +1,4 @@
-// Times the compiled reducer beside OpenFst's Minimize on the same tables, in one run, and prints a table of seconds and ratios in Markdown.
+// Times the compiled reducer, both ways, beside OpenFst's Minimize on the same tables, in one run, and prints tables of microseconds and ratios in Markdown.
 // A ratio is the reducer's time over OpenFst's: below 1 the reducer is faster. What each load is stands in docs/BENCH.md.
 #include <fst/fstlib.h>
 
@@ -18,6 +18,9 @@ void gelfost_generate(uint32_t seed, size_t rows, size_t events, uint16_t *cells
 void gelfost_reduce(uint32_t offset, uint32_t mask, size_t rows, size_t events, size_t start, const uint16_t *cells, size_t cells_len,
                     const uint8_t *marks, size_t marks_len, uint16_t *new_cells, size_t new_cells_len, uint8_t *new_marks,
                     size_t new_marks_len, uint16_t *scratch, size_t scratch_len, size_t answer[4]);
+void gelfost_reduce_few(uint32_t offset, uint32_t mask, size_t rows, size_t events, size_t start, const uint16_t *cells,
+                        size_t cells_len, const uint8_t *marks, size_t marks_len, uint16_t *new_cells, size_t new_cells_len,
+                        uint8_t *new_marks, size_t new_marks_len, uint16_t *scratch, size_t scratch_len, size_t answer[4]);
 }
 
 namespace {
@@ -91,6 +94,60 @@ Table chain_with_random_tail(size_t rows, size_t events) {
     return table;
 }
 
+// ---- shapes that are hard for the levels: many splits, or many levels at which something changes
+
+// Every event leads to the row after; marks are drawn.
+Table chain_with_random_marks(size_t rows, size_t events) {
+    Table table = chain(rows, events);
+    Draw draw(1);
+    table.marks.assign(table.marks.size(), 0);
+    draw_marks(table, draw);
+    return table;
+}
+
+// A chain of half the rows into another, on whose first row event 0 stays: its rows have endless depth. Marks are drawn.
+Table chain_on_endless_chain(size_t rows, size_t events) {
+    Table table = chain_with_random_marks(rows, events);
+    if (events > 1) table.target(rows / 2, 0) = rows / 2;
+    return table;
+}
+
+// One drawn event leads from each row to the next, the others home to row 0; the last row, which alone is ready, leads to itself.
+Table pattern(size_t rows, size_t events) {
+    Table table = chain(rows, events);
+    Draw draw(1);
+    for (size_t r = 0; r + 1 < rows; r++) {
+        size_t right = draw() % events;
+        for (size_t a = 0; a < events; a++) table.target(r, a) = a == right ? r + 1 : 0;
+    }
+    return table;
+}
+
+// The same with its rows shuffled but for the first, which is the start.
+Table shuffled_pattern(size_t rows, size_t events) {
+    const Table plain = pattern(rows, events);
+    std::vector<size_t> to(rows);
+    for (size_t r = 0; r < rows; r++) to[r] = r;
+    std::shuffle(to.begin() + 1, to.end(), Draw(1));
+    Table table(rows, events);
+    for (size_t r = 0; r < rows; r++) {
+        for (size_t a = 0; a < events; a++) table.target(to[r], a) = to[plain.target(r, a)];
+        if (plain.ready(r)) table.set_ready(to[r]);
+    }
+    return table;
+}
+
+// One drawn event leads from each row to the next, the others to any row up to its own.
+Table deep_and_dense(size_t rows, size_t events) {
+    Table table = chain(rows, events);
+    Draw draw(1);
+    for (size_t r = 0; r + 1 < rows; r++) {
+        size_t right = draw() % events;
+        for (size_t a = 0; a < events; a++) table.target(r, a) = a == right ? r + 1 : draw() % (r + 1);
+    }
+    return table;
+}
+
 // ---- the two sides
 
 double seconds(const std::function<void()> &work) {
@@ -124,24 +181,32 @@ double minimize(const Table &table, size_t &states) {
     return took;
 }
 
+// The two ways through the reducer: the call, and how many scratch cells it needs.
+struct Way {
+    decltype(&gelfost_reduce) call;
+    size_t (*need)(size_t rows);
+};
+
+const Way ways[2] = {{gelfost_reduce, [](size_t rows) { return rows * (rows - 1) / 2 + 4 * rows; }},
+                     {gelfost_reduce_few, [](size_t rows) { return 12 * rows; }}};
+
 // The lent buffers, and the reduced table afterwards.
 struct Lent {
     std::vector<uint16_t> cells;
     std::vector<uint8_t> marks;
     std::vector<uint16_t> scratch;
 
-    explicit Lent(const Table &table)
-        : cells(table.cells.size()), marks(table.marks.size()), scratch(table.rows * (table.rows - 1) / 2 + 4 * table.rows) {}
+    Lent(const Table &table, const Way &way) : cells(table.cells.size()), marks(table.marks.size()), scratch(way.need(table.rows)) {}
 };
 
-// Seconds of the whole call, with its checks and the clearing of the scratch.
-double reduce(const Table &table, uint32_t offset, Lent &lent, size_t &rows) {
-    uint32_t mask = table.events < 32 ? (uint32_t{1} << table.events) - 1 : UINT32_MAX;
+// Seconds of the whole call, with its checks and the clearing of the scratch; `counted` events count.
+double reduce(const Way &way, const Table &table, size_t counted, uint32_t offset, Lent &lent, size_t &rows) {
+    uint32_t mask = counted < 32 ? (uint32_t{1} << counted) - 1 : UINT32_MAX;
     size_t answer[4];
     double took = seconds([&] {
-        gelfost_reduce(offset, mask, table.rows, table.events, 0, table.cells.data(), table.cells.size(), table.marks.data(),
-                       table.marks.size(), lent.cells.data(), lent.cells.size(), lent.marks.data(), lent.marks.size(),
-                       lent.scratch.data(), lent.scratch.size(), answer);
+        way.call(offset, mask, table.rows, table.events, 0, table.cells.data(), table.cells.size(), table.marks.data(),
+                 table.marks.size(), lent.cells.data(), lent.cells.size(), lent.marks.data(), lent.marks.size(), lent.scratch.data(),
+                 lent.scratch.size(), answer);
     });
     if (answer[0]) fail("the reducer refused by rule " + std::to_string(answer[0]));
     rows = answer[1];
@@ -166,43 +231,104 @@ struct Load {
     Table (*make)(size_t rows, size_t events);
 };
 
-// Best of so many, the four in turn, so that what else the machine does falls on all of them alike.
-void time_load(const Load &load, size_t rows, size_t events, int repeats) {
-    const Table table = load.make(rows, events);
-    const uint32_t offsets[3] = {0, no_offset, static_cast<uint32_t>(rows / 2)};
-    double theirs = 1e9, ours[3] = {1e9, 1e9, 1e9};
-    size_t states = 0, left[3] = {};
-    Lent lent(table);
+// OpenFst's seconds, and by way and offset the rows that are left and the seconds.
+struct Times {
+    double theirs = 1e9, ours[2][4];
+    size_t left[2][4];
+};
+
+// Best of so many, all in turn, so that what else the machine does falls on all of them alike. Both ways must leave as many rows, and as many as OpenFst at offset 0 where every event counts.
+Times time_table(const Table &table, size_t counted, int repeats) {
+    const uint32_t offsets[4] = {0, 10, static_cast<uint32_t>(4 * table.rows / 3), no_offset};
+    Times times;
+    for (auto &of_way : times.ours) std::fill(of_way, of_way + 4, 1e9);
+    size_t states = 0;
+    Lent lent[2] = {Lent(table, ways[0]), Lent(table, ways[1])};
     for (int i = 0; i < repeats; i++) {
-        theirs = std::min(theirs, minimize(table, states));
-        for (int k = 0; k < 3; k++) {
-            ours[k] = std::min(ours[k], reduce(table, offsets[k], lent, left[k]));
-            if (k == 0 && left[0] != states + lost_rows(lent, left[0], events)) fail("reducer and OpenFst differ in rows");
+        times.theirs = std::min(times.theirs, minimize(table, states));
+        for (int k = 0; k < 4; k++) {
+            for (int w = 0; w < 2; w++)
+                times.ours[w][k] = std::min(times.ours[w][k], reduce(ways[w], table, counted, offsets[k], lent[w], times.left[w][k]));
+            if (times.left[0][k] != times.left[1][k]) fail("the two ways differ in rows");
+            if (k == 0 && counted == table.events && times.left[1][0] != states + lost_rows(lent[1], times.left[1][0], table.events))
+                fail("reducer and OpenFst differ in rows");
         }
     }
-    std::printf("| %s | %zu | %zu | %.6f |", load.name, events, rows, theirs);
-    for (int k = 0; k < 3; k++) std::printf(" %zu | %.6f | %.2f |", left[k], ours[k], ours[k] / theirs);
+    return times;
+}
+
+void print_head(const char *what) {
+    std::printf("\n| %s | events | rows | OpenFst |", what);
+    for (const char *offset : {"0", "10", "4 rows / 3", "none"}) std::printf(" rows at %s | first | second | ratio |", offset);
+    std::printf("\n|---|---|---|---|");
+    for (int k = 0; k < 4; k++) std::printf("---|---|---|---|");
+    std::printf("\n");
+}
+
+void print_times(const char *name, const Table &table, const Times &times) {
+    std::printf("| %s | %zu | %zu | %.0f |", name, table.events, table.rows, 1e6 * times.theirs);
+    for (int k = 0; k < 4; k++)
+        std::printf(" %zu | %.0f | %.0f | %.2f |", times.left[1][k], 1e6 * times.ours[0][k], 1e6 * times.ours[1][k],
+                    times.ours[1][k] / times.theirs);
     std::printf("\n");
     std::fflush(stdout);
 }
 
-}  // namespace
-
-int main(int count, char **words) {
-    int repeats = count > 1 ? std::atoi(words[1]) : 5;
-    if (repeats < 1) fail("usage: bench [REPEATS]");
+// The loads at three sizes, and how much a doubling of the rows costs the second way at its dearest.
+void time_loads(int repeats) {
     const Load loads[] = {{"random", random_table},
                           {"stated load", stated_load},
                           {"chain", chain},
                           {"chain, random tail", chain_with_random_tail},
                           {"cycle", cycle}};
-    std::printf("| load | events | rows | OpenFst s | rows at 0 | s | ratio | rows at none | s | ratio | rows at rows / 2 | s | ratio |\n");
-    std::printf("|---|---|---|---|---|---|---|---|---|---|---|---|---|\n");
-    int done = 0;
+    print_head("load");
+    std::string growth;
     for (const Load &load : loads)
-        for (size_t events : {1, 4, 32})
+        for (size_t events : {1, 4, 32}) {
+            growth += "| " + std::string(load.name) + " | " + std::to_string(events) + " |";
+            Times before;
             for (size_t rows : {256, 512, 1024}) {
-                std::fprintf(stderr, "bench: %d of 45: %s, %zu events, %zu rows\n", ++done, load.name, events, rows);
-                time_load(load, rows, events, repeats);
+                std::fprintf(stderr, "bench: %s, %zu events, %zu rows\n", load.name, events, rows);
+                const Table table = load.make(rows, events);
+                const Times times = time_table(table, events, repeats);
+                print_times(load.name, table, times);
+                for (int k = 0; rows > 256 && k < 4; k++) {
+                    char factor[32];
+                    std::snprintf(factor, sizeof factor, " %.1f |", times.ours[1][k] / before.ours[1][k]);
+                    growth += factor;
+                }
+                before = times;
             }
+            growth += "\n";
+        }
+    std::printf("\n| growth of the second way | events |");
+    for (const char *size : {"512", "1,024"})
+        for (const char *offset : {"0", "10", "4 rows / 3", "none"}) std::printf(" to %s, at %s |", size, offset);
+    std::printf("\n|---|---|---|---|---|---|---|---|---|---|\n%s", growth.c_str());
+}
+
+// The hard shapes at 1,024 rows; of the last one only half the events count, so that idle events move rows.
+void time_shapes(int repeats) {
+    const Load shapes[] = {{"chain, random marks", chain_with_random_marks},
+                           {"chain on an endless chain", chain_on_endless_chain},
+                           {"pattern", pattern},
+                           {"shuffled pattern", shuffled_pattern},
+                           {"deep and dense", deep_and_dense},
+                           {"stated load, half the events idle", stated_load}};
+    print_head("shape");
+    for (const Load &shape : shapes)
+        for (size_t events : {2, 32}) {
+            std::fprintf(stderr, "bench: %s, %zu events\n", shape.name, events);
+            const Table table = shape.make(1024, events);
+            print_times(shape.name, table, time_table(table, shape.make == stated_load ? events / 2 : events, repeats));
+        }
+}
+
+}  // namespace
+
+int main(int count, char **words) {
+    int repeats = count > 1 ? std::atoi(words[1]) : 25;
+    if (repeats < 1) fail("usage: bench [REPEATS]");
+    time_loads(repeats);
+    time_shapes(repeats);
 }

@@ -135,7 +135,7 @@ pub fn depths(
     if !scratch::workable(rows, events, start, cells, marks, scratch.len()) {
         return false;
     }
-    let at = scratch::leads_at(rows as u16);
+    let at = scratch::pair_cells(rows as u16);
     search(
         mask,
         rows as u16,

@@ -173,9 +173,10 @@ pub extern "C" fn gelfost_reduce_few(
         (now (answer .exit) ≡ ofAnswer a)
         × Promise need v k mask T c m s a (now (newcells .exit)) (now (newmarks .exit)) (now (scratch .exit))) ⌝ }
 {
+    let k = answers::offset_of(offset);
     let found = reduction::reduce_table(
         ways::Way::Second,
-        answers::offset_of(offset),
+        k,
         mask,
         rows,
         events,

@@ -13,7 +13,7 @@ use Rattle.tables.specs.Lengths.{lead}
 use Rattle.tables.specs.Reduction.{order, kept, fold, similar}
 use Rattle.tables.proofs.Lists.{tabulate-length, tabulate-at}
 use Rattle.tables.proofs.Over.{over-length, over-inside, over-before, over-behind, over-again, over-swap}
-use Rattle.scratch.specs.Scratch.{leadsAt, queueAt, foldsAt, numbersAt, lenCell, leadAt, workable, cleared}
+use Rattle.scratch.specs.Scratch.{leadsAt, queueAt, foldsAt, lenCell, leadAt, workable, cleared}
 use Rattle.scratch.proofs.Soundness.{workable-shape}
 use Rattle.scratch.proofs.Order.{order-few, order-meaning}
 use Rattle.lengths.specs.Lengths.{lengthsIn, Holds}
@@ -123,7 +123,7 @@ module _ (mask : ℕ) (k : Offset) (T : Table) (s : List ℕ) where
         ∙ holds .leads-hold q h
 
     -- Beyond the regions nothing changes.
-    pub folded-beyond : (i : ℕ) → numbersAt n ≤ i → getD (foldedIn mask k T s) i 0 ≡ getD s i 0
+    pub folded-beyond : (i : ℕ) → foldsAt n + n ≤ i → getD (foldedIn mask k T s) i 0 ≡ getD s i 0
     folded-beyond i h =
         ap (λ (l : List ℕ). getD l i 0) folded-is
         ∙ over-behind (over lengths (queueAt n) zeros) (foldsAt n) (foldCells (weightBy mask) k T) inside i 0 (omega (arith, folds-length))

@@ -33,7 +33,7 @@ pub fn find_lengths(
 pub fn lead(scratch: &[u16], rows: u16, row: u16) -> u16
     ensures { λ r. ⌜ r ≡ leadAt (now (scratch .entry)) rows row ⌝ }
 {
-    scratch::cell(scratch, scratch::leads_at(rows) + rules::wide(row))
+    scratch::cell(scratch, scratch::pair_cells(rows) + rules::wide(row))
 }
 
 // The depth of a row: its lead less one.

@@ -3,3 +3,4 @@ pub mod Keeps
 pub mod Again
 pub mod AgainShr
 pub mod Together
+pub mod Both

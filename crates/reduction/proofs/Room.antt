@@ -90,3 +90,9 @@ module _ (need : ℕ → ℕ) (mask : ℕ) (T : Table) (cells marks records scra
 
 pub roomy-works : {need : ℕ → ℕ} {T : Table} {cells marks records scratch : ℕ} → Roomy need T cells marks records scratch → workableIn need T scratch ≡ true
 roomy-works {need} {T} {cells} {marks} {records} {scratch} h = valid-within need T scratch (h .valid) (h .scratch-fits)
+
+-- Where two figures both fit, the verdict is one.
+pub same-verdict : (need more : ℕ → ℕ) (mask : ℕ) (T : Table) (cells marks records scratch spare : ℕ) → need (T .rows) ≤ scratch → more (T .rows) ≤ spare
+    → verdict need mask T cells marks records scratch ≡ verdict more mask T cells marks records spare
+unfolding verdict
+same-verdict need more mask T cells marks records scratch spare h g = rw (room-kept (need (T .rows)) scratch h, room-kept (more (T .rows)) spare g)

@@ -33,7 +33,7 @@ unfoldable pub pairs : (ℕ → ℕ → ℕ) → ℕ → List ℕ
 pairs f zero = []
 pairs f (suc n) = pairs f n ++ tabulate n (f n)
 
--- Behind the pairs stand four cells for each row: its lead, a place in the queue, the row into which it folds, and that row's new number.
+-- Behind the pairs stand three cells for each row: its lead, a place in the queue, and the row into which it folds; a fourth is spare.
 abbrev pub leadsAt : ℕ → ℕ
 leadsAt n = triangle n
 
@@ -43,18 +43,12 @@ queueAt n = triangle n + n
 abbrev pub foldsAt : ℕ → ℕ
 foldsAt n = triangle n + 2 * n
 
-abbrev pub numbersAt : ℕ → ℕ
-numbersAt n = triangle n + 3 * n
-
--- What stands there in scratch s of n rows: the lead of row q, the first m rows of the queue, the row into which row q folds.
+-- What stands there in scratch s of n rows: the lead of row q, the first m rows of the queue.
 abbrev pub leadAt : List ℕ → ℕ → ℕ → ℕ
 leadAt s n q = getD s (leadsAt n + q) 0
 
 abbrev pub queued : List ℕ → ℕ → ℕ → List ℕ
 queued s n m = take m (drop (queueAt n) s)
-
-abbrev pub foldIn : List ℕ → ℕ → ℕ → ℕ
-foldIn s n q = getD s (foldsAt n + q) 0
 
 -- The lead of row q in a scratch that begins with the leads.
 abbrev pub leadIn : List ℕ → ℕ → ℕ

@@ -3,7 +3,7 @@ ghost use mathlib.Core.Path.{_≡_};
 ghost use Prim.Native.Nat.{_+_, _*_};
 ghost use lib.ListN.{getD, set};
 ghost use Rattle.rules.specs.Rules.{tableOf, judged, winch, tableChecks};
-ghost use Rattle.scratch.specs.Scratch.{triangle, startIn, pairFrom, leadsAt, queueAt, foldsAt, numbersAt, needed as cellsNeeded, cleared, fine, workable as isWorkable};
+ghost use Rattle.scratch.specs.Scratch.{triangle, startIn, pairFrom, queueAt, foldsAt, needed as cellsNeeded, cleared, fine, workable as isWorkable};
 
 // How many cells the pairs of so many rows take; behind them stand the leads.
 pub fn pair_cells(rows: u16) -> usize
@@ -24,14 +24,7 @@ pub fn row_start(starts: &[u32], row: u16) -> usize
     pair_cells(row)
 }
 
-// Where the leads stand, one for each row.
-pub fn leads_at(rows: u16) -> usize
-    ensures { λ r. ⌜ r ≡ leadsAt rows ⌝ }
-{
-    pair_cells(rows)
-}
-
-// Where rows stand in line: in order of depth, then kept, then in order of their new numbers.
+// Where rows stand in line: in order of depth, then kept.
 pub fn queue_at(rows: u16) -> usize
     ensures { λ r. ⌜ r ≡ queueAt rows ⌝ }
 {
@@ -45,14 +38,7 @@ pub fn folds_at(rows: u16) -> usize
     pair_cells(rows) + 2 * rules::wide(rows)
 }
 
-// Where the new numbers of those stand.
-pub fn numbers_at(rows: u16) -> usize
-    ensures { λ r. ⌜ r ≡ numbersAt rows ⌝ }
-{
-    pair_cells(rows) + 3 * rules::wide(rows)
-}
-
-// How many cells all of it takes.
+// How many cells are lent for all of it.
 pub fn needed(rows: u16) -> usize
     ensures { λ r. ⌜ r ≡ cellsNeeded rows ⌝ }
 {

@@ -1,4 +1,4 @@
-use mathlib.Core.Path.{refl, ap, sym}
+use mathlib.Core.Path.{ap, sym}
 use Rattle.rules.specs.Rules.{tableOf}
 use Rattle.scratch.specs.Scratch.{fine}
 use Rattle.scratch.proofs.Works.{fine-if}
