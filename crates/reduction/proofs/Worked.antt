@@ -1,6 +1,5 @@
 -- Rows that were folded and numbered: what was written is the reduction, and the scratch tells each row's depth and fate.
 use mathlib.Core.Path.{_≡_, refl, sym, ap, subst, _∙_}
-use mathlib.Core.Bool.{true}
 use mathlib.Core.List.{List}
 use Prim.Native.Nat.{ℕ, _+_, _-_, _*_, _≤_, _<_}
 use native.Mathlib.Omega.{arith}
@@ -10,7 +9,6 @@ use Rattle.automata.specs.Runs.{Events, Machine}
 use Rattle.automata.proofs.Lists.{Mem}
 use Rattle.tables.specs.Lists.{place}
 use Rattle.tables.specs.Table.{Table, Offset, Valid, machine, eventsOf, weightBy}
-use Rattle.tables.specs.Lengths.{reached}
 use Rattle.tables.specs.Reduction.{kept, fold, number, numbering, reduced}
 use Rattle.tables.proofs.Counted.{mask-light}
 use Rattle.tables.proofs.Lists.{some-mem}

@@ -17,7 +17,7 @@ use Rattle.tables.proofs.Lists.{at-mem, mem-some, mem-tabulate, tabulate-length
 use Rattle.tables.proofs.Numbering.{numbering-closed}
 use Rattle.scratch.specs.Scratch.{workableIn}
 use Rattle.renumbering.specs.Renumber.{line, left, Numbered, roomy, newRows, newCells, newMarks, NewScratch}
-use Rattle.renumbering.specs.Line.{foldRow, lineIn, numberOf, Lined, newTarget, newMark}
+use Rattle.renumbering.specs.Line.{foldRow, lineIn, Lined, newTarget, newMark}
 use Rattle.renumbering.proofs.Lines.{folds-stay, line-fits, line-again}
 use Rattle.renumbering.proofs.Lining.{targets}
 

@@ -6,14 +6,14 @@ use mathlib.Core.Logic.{inl, inr, _≢_}
 use Prim.Native.Nat.{ℕ, suc, _+_, _-_, _*_, _≤_, _<_}
 use native.Mathlib.Omega.{arith}
 use native.Mathlib.Decide.{decLt}
-use borrow.Author.Tests.{eqb-true, eqb-false, eq-eqb, ne-eqb}
+use borrow.Author.Tests.{eqb-false, eq-eqb, ne-eqb}
 use lib.Dec.{eqb}
 use lib.ListN.{length, getD, set, length-set, length-append, List·getD-append}
 use lib.Seq.{ext-getD, getD-set-same, getD-set-other, getD-append-seam}
 use Rattle.automata.proofs.Lists.{Mem, Pairwise, Distinct, few}
-use Rattle.automata.proofs.Tests.{either, clash}
+use Rattle.automata.proofs.Tests.{either}
 use Rattle.tables.specs.Lists.{some, position, place, sift}
-use Rattle.tables.proofs.Lists.{pairwise-map, mem-some, sift-more, sift-all, sift-apart, Apart}
+use Rattle.tables.proofs.Lists.{pairwise-map, sift-more, sift-all, sift-apart, Apart}
 use Rattle.tables.proofs.Over.{part-length, part-at}
 use Rattle.scratch.proofs.Triangle.{eq-or-ne}
 use Rattle.renumbering.specs.Line.{foldRow, lineIn, numberOf, Lined, Frame}

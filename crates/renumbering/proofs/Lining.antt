@@ -1,8 +1,7 @@
 -- Going through the rows in line: the line is `met`, turn by turn, and in the end the numbering.
 use mathlib.Core.Path.{_≡_, refl, sym, ap, subst, _∙_}
-use mathlib.Core.Bool.{cond}
 use mathlib.Core.List.{List, [], _∷_}
-use Prim.Native.Nat.{ℕ, suc, _+_, _*_, _≤_, _<_}
+use Prim.Native.Nat.{ℕ, _+_, _*_, _≤_, _<_}
 use native.Mathlib.Omega.{arith}
 use native.Mathlib.Numerals.{add-one}
 use native.Mathlib.Decide.{decLt}
@@ -12,13 +11,12 @@ use lib.ListN.{length, getD}
 use Rattle.tables.specs.Lists.{tabulate, some, sift}
 use Rattle.tables.specs.Table.{Table, Valid, machine, targetOf}
 use Rattle.tables.specs.Reduction.{met, numbering}
-use Rattle.automata.proofs.Lists.{Mem}
 use Rattle.tables.proofs.Lists.{read-same, read-below, at-mem, mem-tabulate, tabulate-length, tabulate-same}
 use Rattle.tables.proofs.Numbering.{met-stops, numbering-starts, numbering-same}
 use Rattle.scratch.specs.Scratch.{cleared}
 use Rattle.scratch.proofs.Cells.{cleared-length, cleared-before, cleared-behind, cleared-inside}
 use Rattle.renumbering.specs.Renumber.{line, Numbered}
-use Rattle.renumbering.specs.Line.{foldRow, lineIn, next, numberOf, Lined, Frame, Targets}
+use Rattle.renumbering.specs.Line.{foldRow, lineIn, next, Lined, Frame, Targets}
 use Rattle.renumbering.proofs.Lines.{sift-length, frame-none, frame-then, folds-stay, line-fits, line-list}
 
 -- A valid table's cells.

@@ -1,13 +1,13 @@
 -- How the two figures compare.
-use mathlib.Core.Path.{_≡_, sym, ap, _∙_}
-use mathlib.Core.Bool.{true, false, cond}
-use Prim.Native.Nat.{ℕ, suc, _+_, _*_, _≤_, _<_}
+use mathlib.Core.Path.{_≡_}
+use mathlib.Core.Bool.{false}
+use Prim.Native.Nat.{ℕ, _*_, _≤_, _<_}
 use native.Mathlib.Omega.{arith}
 use native.Mathlib.Decide.{le-ind}
 use borrow.Author.Tests.{le-leb}
 use Rattle.automata.proofs.Tests.{not-true}
 use Rattle.tables.specs.Table.{Table}
-use Rattle.scratch.specs.Scratch.{triangle, needed, scratchCells, fewCells, workableIn}
+use Rattle.scratch.specs.Scratch.{triangle, needed, fewCells, workableIn}
 use Rattle.scratch.proofs.Triangle.{needed-value}
 use Rattle.scratch.proofs.Soundness.{within-shape}
 use Rattle.scratch.proofs.Works.{within-fine}

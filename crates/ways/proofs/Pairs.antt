@@ -1,5 +1,5 @@
 -- The folds by pairs, once they have been moved to the front.
-use mathlib.Core.Path.{_≡_, sym, ap, subst, _∙_}
+use mathlib.Core.Path.{_≡_, sym, ap, _∙_}
 use mathlib.Core.Bool.{true}
 use mathlib.Core.List.{List}
 use Prim.Native.Nat.{ℕ, _+_, _*_, _≤_, _<_}
@@ -10,7 +10,7 @@ use Rattle.tables.specs.Lists.{tabulate, over}
 use Rattle.tables.specs.Table.{Table, Offset}
 use Rattle.tables.proofs.Lists.{tabulate-length}
 use Rattle.tables.proofs.Over.{over-length, over-behind, front-at}
-use Rattle.scratch.specs.Scratch.{triangle, needed, scratchCells, workable}
+use Rattle.scratch.specs.Scratch.{triangle, scratchCells, workable}
 use Rattle.scratch.proofs.Triangle.{needed-value}
 use Rattle.scratch.proofs.Works.{workable-fine}
 use Rattle.folding.specs.Folding.{foldedIn}

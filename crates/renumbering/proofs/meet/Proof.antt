@@ -1,7 +1,6 @@
-use mathlib.Core.Path.{_≡_, sym, ap, subst, _∙_}
-use Prim.Native.Nat.{ℕ, _+_, _*_, _-_, _≤_}
+use mathlib.Core.Path.{ap, _∙_}
+use Prim.Native.Nat.{_+_, _*_, _-_, _≤_}
 use lib.Arith.{digits-lt}
-use lib.ListN.{length}
 use Rattle.renumbering.specs.Line.{foldRow}
 use Rattle.renumbering.proofs.Lines.{line-again}
 use Rattle.renumbering.proofs.Meeting.{soFar, Met, none-met, met-fits, meets, all-met}

@@ -1,6 +1,5 @@
 use Rattle.renumbering.proofs.Writing.{new-mark-in, new-mark-none}
 use mathlib.Core.Path.{sym}
-use native.Mathlib.Omega.{arith}
 use borrow.Author.Needs.{needs}
 use Rattle.renumbering.proofs.new_mark.Statement.{statement}
 use Rattle.renumbering.proofs.new_mark.Tie as tie

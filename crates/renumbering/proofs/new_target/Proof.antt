@@ -1,8 +1,5 @@
-use mathlib.Core.Path.{_≡_, sym, ap, subst, _∙_}
-use Prim.Native.Nat.{ℕ, _+_, _-_, _*_, _<_, _≤_}
+use Prim.Native.Nat.{_+_, _-_, _*_, _<_}
 use lib.Arith.{digits-lt}
-use lib.ListN.{getD}
-use Rattle.renumbering.specs.Line.{foldRow}
 use Rattle.renumbering.proofs.Writing.{line-row, new-target-is}
 use native.Mathlib.Omega.{arith}
 use borrow.Author.Needs.{needs}

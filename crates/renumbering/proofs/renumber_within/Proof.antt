@@ -1,5 +1,4 @@
-use mathlib.Core.Path.{_≡_, sym, ap, _∙_}
-use native.Mathlib.Nat.{mul-le-mul}
+use mathlib.Core.Path.{sym, ap, _∙_}
 use Rattle.tables.specs.Lists.{over}
 use Rattle.rules.specs.Rules.{tableOf}
 use Rattle.renumbering.proofs.Lining.{targets}

@@ -1,5 +1,5 @@
 use mathlib.Core.Path.{_≡_, refl, sym, _∙_}
-use Prim.Native.Nat.{ℕ, _*_, _/_, _%_, _-_, _≤_, _<_}
+use Prim.Native.Nat.{_*_, _/_, _%_, _-_, _≤_, _<_}
 use native.Mathlib.Nat.{zero-div, zero-mod, mod-lt, mul-le-mul, div-lt-iff-lt-mul}
 use lib.ListN.{length, take, length-set}
 use Rattle.tables.specs.Lists.{tabulate, over}

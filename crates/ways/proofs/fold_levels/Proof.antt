@@ -1,4 +1,4 @@
-use mathlib.Core.Path.{_≡_, refl}
+use mathlib.Core.Path.{refl}
 use lib.ListN.{length}
 use Rattle.rules.specs.Rules.{tableOf, offsetOf}
 use Rattle.scratch.specs.Scratch.{scratchCells}

@@ -1,4 +1,4 @@
-use mathlib.Core.Path.{_≡_, refl, sym, _∙_}
+use mathlib.Core.Path.{refl, sym, _∙_}
 use lib.ListN.{length}
 use Rattle.rules.specs.Rules.{tableOf, offsetOf}
 use Rattle.scratch.proofs.Soundness.{workable-shape}

@@ -1,9 +1,8 @@
-use mathlib.Core.Path.{_≡_, sym, ap, subst}
+use mathlib.Core.Path.{sym, subst}
 use Rattle.rules.specs.Rules.{tableOf, offsetOf}
 use Rattle.ways.specs.Ways.{needOf, Folding}
 use Rattle.ways.specs.declared.Way.{Way}
 use Rattle.ways.proofs.Choice.{few-done}
-use native.Mathlib.Omega.{arith}
 use borrow.Author.Needs.{needs}
 use Rattle.ways.proofs.fold_rows.Statement.{statement}
 use Rattle.ways.proofs.fold_rows.Tie as tie

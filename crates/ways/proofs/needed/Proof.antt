@@ -1,9 +1,8 @@
-use mathlib.Core.Path.{_≡_, sym, ap, _∙_}
+use mathlib.Core.Path.{sym, ap, _∙_}
 use Prim.Native.Nat.{ℕ, _*_}
 use Rattle.scratch.proofs.Triangle.{needed-value}
 use Rattle.ways.specs.Ways.{needOf}
 use Rattle.ways.specs.declared.Way.{Way}
-use native.Mathlib.Omega.{arith}
 use borrow.Author.Needs.{needs}
 use Rattle.ways.proofs.needed.Statement.{statement}
 use Rattle.ways.proofs.needed.Tie as tie
