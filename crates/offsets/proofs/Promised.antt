@@ -16,6 +16,7 @@ use Rattle.rules.specs.Rules.{leftBy}
 use Rattle.rules.specs.declared.Verdict.{Verdict}
 use Rattle.rules.specs.declared.Verdict.the-variants.{Fine, Refused}
 use Rattle.scratch.specs.Scratch.{needed, scratchCells, cleared}
+use Rattle.scratch.proofs.Triangle.{needed-value}
 use Rattle.scratch.proofs.Cells.{clear-work}
 use Rattle.scratch.proofs.Works.{valid-workable}
 use Rattle.lengths.specs.Lengths.{lengthsIn}
@@ -107,5 +108,6 @@ module _ (mask : ℕ) (T : Table) (bytes : (i : ℕ) → getD (T .marks) i 0 < 2
           ∙ ap (over list 0) (sheet-found mask T scratch (r .valid) (r .scratch-fits))
           ∙ sym (ap (λ (x : Verdict). leftBy x list (sheet (weightBy mask) T)) w))
           (hc ∙ ap (λ (x : List ℕ). cleared x 0 to) hs ∙ ap (cleared (lengthsIn mask T scratch) 0) ht
-          ∙ clear-work (T .rows) scratch (lengthsIn mask T scratch) (r .scratch-fits) (lengths-size mask T scratch) (λ i g. lengths-beyond mask T scratch i (omega arith))
+          ∙ clear-work (needed (T .rows)) scratch (lengthsIn mask T scratch) (r .scratch-fits) (lengths-size mask T scratch) (λ i g. lengths-beyond mask T scratch i (omega arith))
+          ∙ ap (λ (m : ℕ). over scratch 0 (replicate m 0)) (sym (needed-value (T .rows)))
           ∙ sym (ap (λ (x : Verdict). leftBy x scratch (replicate (scratchCells (T .rows)) 0)) w))

@@ -1,9 +1,9 @@
 -- From the leads to the order, and from the labels to the rows into which rows fold.
-use mathlib.Core.Path.{_≡_, sym, ap, subst, _∙_}
+use mathlib.Core.Path.{_≡_, sym, ap, _∙_}
 use mathlib.Core.Bool.{Bool, true, false, not, true≢false, false≢true}
 use mathlib.Core.List.{List}
-use mathlib.Core.Logic.{_⊎_, inl, inr, ⊎-elim}
-use Prim.Native.Nat.{ℕ, _+_, _*_, _≤_, _<_}
+use mathlib.Core.Logic.{_⊎_, ⊎-elim}
+use Prim.Native.Nat.{ℕ, _*_, _≤_, _<_}
 use native.Mathlib.Omega.{arith}
 use borrow.Author.Tests.{eqb-false, not-true, not-false}
 use lib.Dec.{eqb}
@@ -14,7 +14,7 @@ use Rattle.automata.proofs.Tests.{either, flip-true}
 use Rattle.tables.specs.Lengths.{lead, isZero, reached}
 use Rattle.tables.specs.Table.{Table, Offset, offset, weightBy, machine, eventsOf}
 use Rattle.tables.specs.Reduction.{order, fold}
-use Rattle.tables.proofs.Lengths.{Below, lead-below, lead-unreached}
+use Rattle.tables.proofs.Lengths.{lead-unreached}
 use Rattle.rules.specs.Rules.{winch}
 use Rattle.rules.proofs.Shape.{Shape}
 use Rattle.scratch.specs.Scratch.{leadIn, lenCell, fewCells, workableIn}
@@ -27,16 +27,12 @@ use Rattle.levels.specs.Levels.{far}
 use Rattle.levels.proofs.Folds.{fold-far}
 use Rattle.buckets.specs.Buckets as Buckets
 use Rattle.quick_depths.specs.Leads.{Found}
+use Rattle.quick_depths.proofs.Told.{found-small}
 use Rattle.quick_folding.specs.Parts.{foldAt, Valued, Labels}
 use Rattle.quick_folding.specs.State.{Fits, Laid, Folded}
 use Rattle.quick_folding.proofs.Moves.{same-behind, fold-some}
 
--- The cell of a lead is the number of rows or less, or endless,
-cell-small : (n : ℕ) (x : Len) → Below (n + 1) x → (lenCell x ≤ n) ⊎ (lenCell x ≡ 65535)
-cell-small n (len c) b = inl (omega arith)
-cell-small n endless b = inr (omega arith)
-
--- and 0 just for rows that are not reached.
+-- The cell of a lead is 0 just for rows that are not reached.
 cell-reached : (E : Events) (M : Machine) (q : ℕ) → reached E M q ≡ true → lenCell (lead E M q) ≡ 0 → ⊥
 unfolding reached
 cell-reached E M q = pick (lead E M q)
@@ -94,7 +90,7 @@ module _ (mask : ℕ) (T : Table) {s t₁ : List ℕ} {r : Bool} (e : r ≡ work
           some = shape .some-row;
           few = small;
           room = omega (arith, within-fine fewCells T (length s) w .1, d .kept .size);
-          leads = λ q l. subst (λ (c : ℕ). (c ≤ n) ⊎ (c ≡ 65535)) (sym (d .leads q l)) (cell-small n (lead E M q) (lead-below E M q));
+          leads = found-small d;
         }
 
     module _ {t₂ : List ℕ} {count : ℕ} (ordering : Buckets.Room n t₁ → Buckets.Ordered n t₁ t₂ count) where

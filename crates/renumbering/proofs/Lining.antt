@@ -4,8 +4,6 @@ use mathlib.Core.List.{List, [], _∷_}
 use Prim.Native.Nat.{ℕ, _+_, _*_, _≤_, _<_}
 use native.Mathlib.Omega.{arith}
 use native.Mathlib.Numerals.{add-one}
-use native.Mathlib.Decide.{decLt}
-use borrow.Author.Tests.{lt-ltb, le-ltb}
 use lib.Dec.{eqb}
 use lib.ListN.{length, getD}
 use Rattle.tables.specs.Lists.{tabulate, some, sift}
@@ -29,13 +27,6 @@ targets T v = record {
   all-cells = omega (arith, v .all-cells);
   inside = read-below (T .cells) (T .rows) (v .some-row) (v .cells-in);
 }
-
--- A fold is a row.
-pub fold-below : (n : ℕ) (s : List ℕ) → 0 < n → (q : ℕ) → foldRow n s q < n
-fold-below n s pos q = elim (decLt (getD s (2 * n + q) 0) n) [
-  | yes h ↦ rw (lt-ltb (getD s (2 * n + q) 0) n h) h
-  | no h ↦ rw (le-ltb (getD s (2 * n + q) 0) n (omega arith)) pos
-]
 
 module _ (T : Table) (s : List ℕ) where
   -- the line after i rows of it have been gone through
