@@ -15,9 +15,10 @@ use Rattle.tables.specs.Lengths.{lead}
 use Rattle.tables.specs.Table.{Table, machine, eventsOf, weightBy}
 use Rattle.tables.proofs.Over.{front-tabulate, rest, rest-length}
 use Rattle.tables.proofs.Reduced.{sound-of}
-use Rattle.scratch.specs.Scratch.{leadsAt, lenCell, cleared, workable, leadIn}
+use Rattle.pairs.specs.Pairs.{leadsAt, workable}
+use Rattle.scratch.specs.Scratch.{lenCell, cleared, leadIn}
 use Rattle.scratch.proofs.Cells.{cleared-length, cleared-behind, cleared-inside}
-use Rattle.scratch.proofs.Works.{workable-valid}
+use Rattle.pairs.proofs.Works.{workable-valid}
 use Rattle.depths.specs.Depths.{leadCells}
 use Rattle.depths.specs.Steps.{Workspace, Known, Started, Settled}
 use Rattle.depths.proofs.Moves.{same-space}

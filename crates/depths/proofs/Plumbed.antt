@@ -13,8 +13,9 @@ use Rattle.tables.specs.Lengths.{lead}
 use Rattle.tables.specs.Table.{Table, machine, eventsOf, weightBy}
 use Rattle.tables.proofs.Lists.{tabulate-length, tabulate-at}
 use Rattle.tables.proofs.Over.{over-length, over-inside, take-before-over, drop-over, rest, withRest, rest-over}
-use Rattle.scratch.specs.Scratch.{triangle, leadsAt, lenCell, workable}
-use Rattle.scratch.proofs.Works.{workable-fine}
+use Rattle.pairs.specs.Pairs.{triangle, leadsAt, workable}
+use Rattle.scratch.specs.Scratch.{lenCell}
+use Rattle.pairs.proofs.Works.{workable-fine}
 use Rattle.depths.specs.Depths.{leadCells, plumbed}
 
 module _ (mask : ℕ) (T : Table) (s : List ℕ) where

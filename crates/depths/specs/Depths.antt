@@ -6,7 +6,8 @@ use lib.ListN.{length}
 use Rattle.tables.specs.Lists.{tabulate, over}
 use Rattle.tables.specs.Lengths.{lead}
 use Rattle.tables.specs.Table.{Table, machine, eventsOf, weightBy}
-use Rattle.scratch.specs.Scratch.{leadsAt, lenCell, workable}
+use Rattle.pairs.specs.Pairs.{leadsAt, workable}
+use Rattle.scratch.specs.Scratch.{lenCell}
 
 -- The lead of each row, in cells: one more than its depth, 0 where it is unreached.
 unfoldable pub leadCells : (ℕ → ℕ) → Table → List ℕ

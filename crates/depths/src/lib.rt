@@ -3,7 +3,7 @@ ghost use mathlib.Core.Path.{_≡_};
 ghost use Prim.Native.Nat.{_<_};
 ghost use lib.ListN.{length};
 ghost use Rattle.rules.specs.Rules.{tableOf};
-ghost use Rattle.scratch.specs.Scratch.{workable};
+ghost use Rattle.pairs.specs.Pairs.{workable};
 ghost use Rattle.depths.specs.Depths.{plumbed};
 ghost use Rattle.depths.specs.Steps.{further, Workspace, Risen, Raised, Stepped, Quiet, QuietRow, QuietRows, Settled, Searched};
 
@@ -132,10 +132,10 @@ pub fn depths(
         (r ≡ workable T (length s))
         × (now (scratch .exit) ≡ plumbed mask T s)) ⌝ }
 {
-    if !scratch::workable(rows, events, start, cells, marks, scratch.len()) {
+    if !pairs::workable(rows, events, start, cells, marks, scratch.len()) {
         return false;
     }
-    let at = scratch::pair_cells(rows as u16);
+    let at = pairs::pair_cells(rows as u16);
     search(
         mask,
         rows as u16,

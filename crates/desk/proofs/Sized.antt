@@ -14,7 +14,7 @@ use Rattle.tables.proofs.Counted.{mask-light}
 use Rattle.tables.proofs.Theorems.{never-more, records-length, valid, same-events}
 use Rattle.rules.specs.declared.Verdict.{Verdict}
 use Rattle.rules.specs.declared.Verdict.the-variants.{Fine, Refused}
-use Rattle.scratch.proofs.Triangle.{needed-value, triangle-le, triangle-square}
+use Rattle.pairs.proofs.Triangle.{needed-value, triangle-le, triangle-square}
 use Rattle.records.specs.declared.Record.{Record}
 use Rattle.reduction.specs.declared.Answer.{Answer}
 use Rattle.reduction.specs.declared.Answer.the-variants as answer

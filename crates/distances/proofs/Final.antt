@@ -9,9 +9,10 @@ use Rattle.automata.specs.Runs.{Events, Machine, Sound, Light, Near, len, endle
 use Rattle.automata.proofs.Nearness.{near-bound}
 use Rattle.tables.specs.Lengths.{distance}
 use Rattle.tables.proofs.Lengths.{distance-is, distance-one}
-use Rattle.scratch.specs.Scratch.{triangle, pairAt, lenCell}
-use Rattle.scratch.proofs.Triangle.{lt-or-ge}
-use Rattle.scratch.proofs.Pairs.{pair-lift}
+use Rattle.pairs.specs.Pairs.{triangle, pairAt}
+use Rattle.scratch.specs.Scratch.{lenCell}
+use Rattle.scratch.proofs.Numbers.{lt-or-ge}
+use Rattle.pairs.proofs.Pairs.{pair-lift}
 use Rattle.distances.specs.Search.{Cells}
 use Rattle.distances.proofs.Fits.{fits-near, rest}
 

@@ -7,9 +7,9 @@ use native.Mathlib.Nat.{eq-zero-or-pos}
 use native.Mathlib.Omega.{arith}
 use Rattle.automata.specs.Runs.{Events, Machine, Sound, Light, Run, size, after, Near}
 use Rattle.automata.proofs.Runs.{near-up, near-step}
-use Rattle.scratch.specs.Scratch.{pairAt}
-use Rattle.scratch.proofs.Pairs.{pair-sym}
-use Rattle.scratch.proofs.Cells.{pair-same}
+use Rattle.pairs.specs.Pairs.{pairAt}
+use Rattle.pairs.proofs.Pairs.{pair-sym}
+use Rattle.pairs.proofs.Cells.{pair-same}
 use Rattle.distances.specs.Search.{Fits}
 
 module _ {E : Events} {M : Machine} where

@@ -7,8 +7,8 @@ use native.Mathlib.Nat.{eq-or-lt-of-le}
 use native.Mathlib.Omega.{arith}
 use lib.ListN.{getD}
 use Rattle.automata.specs.Runs.{Events, Machine, Near}
-use Rattle.scratch.specs.Scratch.{triangle, pairAt}
-use Rattle.scratch.proofs.Pairs.{pair-lift}
+use Rattle.pairs.specs.Pairs.{triangle, pairAt}
+use Rattle.pairs.proofs.Pairs.{pair-lift}
 use Rattle.distances.specs.Search.{Fits, Given, Begun, Ready, Lowered}
 use Rattle.distances.proofs.Moves.{given-same}
 

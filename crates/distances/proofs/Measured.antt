@@ -14,11 +14,12 @@ use Rattle.tables.specs.Lists.{over}
 use Rattle.tables.specs.Lengths.{distance}
 use Rattle.rules.specs.Rules.{winch, tableOf}
 use Rattle.rules.proofs.Shape.{Shape}
-use Rattle.scratch.specs.Scratch.{triangle, pairAt, lenCell, workable}
-use Rattle.scratch.proofs.Pairs.{pairs-same, pairs-at, over-pairs-length, over-pairs-drop}
-use Rattle.scratch.proofs.Works.{workable-fine}
+use Rattle.pairs.specs.Pairs.{triangle, pairAt, workable}
+use Rattle.scratch.specs.Scratch.{lenCell}
+use Rattle.pairs.proofs.Pairs.{pairs-same, pairs-at, over-pairs-length, over-pairs-drop}
+use Rattle.pairs.proofs.Works.{workable-fine}
 use Rattle.tables.proofs.Counted.{mask-light}
-use Rattle.scratch.proofs.Soundness.{workable-shape, workable-sound}
+use Rattle.pairs.proofs.Works.{workable-shape, workable-sound}
 use Rattle.distances.specs.Distances.{distanceCells, measured}
 use Rattle.distances.specs.Search.{eventsBy, machineBy, Given}
 use Rattle.distances.proofs.Symmetry.{distance-turn, distance-self, distance-same}

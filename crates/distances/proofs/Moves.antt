@@ -12,10 +12,11 @@ use lib.ListN.{length, getD, set, drop, length-set}
 use lib.Seq.{getD-set-same, getD-set-other, drop-set-lt}
 use Rattle.automata.specs.Runs.{Events, Machine, Near}
 use Rattle.automata.proofs.Runs.{near-up, near-sym}
-use Rattle.scratch.specs.Scratch.{triangle, pairAt}
-use Rattle.scratch.proofs.Triangle.{lt-or-ge, eq-or-ne, triangle-next}
-use Rattle.scratch.proofs.Cells.{pair-greater}
-use Rattle.scratch.proofs.Pairs.{pair-sym, pair-set}
+use Rattle.pairs.specs.Pairs.{triangle, pairAt}
+use Rattle.scratch.proofs.Numbers.{lt-or-ge, eq-or-ne}
+use Rattle.pairs.proofs.Triangle.{triangle-next}
+use Rattle.pairs.proofs.Cells.{pair-greater}
+use Rattle.pairs.proofs.Pairs.{pair-sym, pair-set}
 use Rattle.distances.specs.Search.{Fits, Cells, Given, Begun, Moved, Turned, Quiet, QuietRow, QuietRows, Visited, RowSwept, Swept, Settled, occurrences}
 use Rattle.distances.proofs.Fits.{near-fits, fits-self, fits-turn}
 

@@ -11,9 +11,10 @@ use Rattle.automata.specs.Runs.{Events, Machine, Light}
 use Rattle.tables.specs.Lists.{over}
 use Rattle.tables.specs.Lengths.{distance}
 use Rattle.tables.proofs.Over.{over-length, take-over, drop-over}
-use Rattle.scratch.specs.Scratch.{triangle, pairAt, pairs, lenCell, cleared}
-use Rattle.scratch.proofs.Cells.{pair-greater}
-use Rattle.scratch.proofs.Pairs.{over-pairs}
+use Rattle.pairs.specs.Pairs.{triangle, pairAt, pairs}
+use Rattle.scratch.specs.Scratch.{lenCell, cleared}
+use Rattle.pairs.proofs.Cells.{pair-greater}
+use Rattle.pairs.proofs.Pairs.{over-pairs}
 use Rattle.distances.specs.Search.{Cells, Given, Begun, Settled, Ready, Risen, Lowered}
 use Rattle.distances.proofs.Moves.{given-same}
 use Rattle.distances.proofs.Levels.{start, lowered}

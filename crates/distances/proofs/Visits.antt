@@ -5,8 +5,8 @@ use mathlib.Core.List.{List}
 use Prim.Native.Nat.{ℕ, _+_, _<_}
 use lib.ListN.{getD, set}
 use Rattle.automata.specs.Runs.{Events, Machine}
-use Rattle.scratch.specs.Scratch.{triangle, pairAt}
-use Rattle.scratch.proofs.Cells.{pair-greater}
+use Rattle.pairs.specs.Pairs.{triangle, pairAt}
+use Rattle.pairs.proofs.Cells.{pair-greater}
 use Rattle.distances.specs.Search.{Fits, Begun, Visited}
 use Rattle.distances.proofs.Moves.{turned-none, raised}
 

@@ -6,7 +6,8 @@ use lib.ListN.{length}
 use Rattle.tables.specs.Lists.{over}
 use Rattle.tables.specs.Table.{Table, machine, eventsOf, weightBy}
 use Rattle.tables.specs.Lengths.{distance}
-use Rattle.scratch.specs.Scratch.{pairs, lenCell, workable}
+use Rattle.pairs.specs.Pairs.{pairs, workable}
+use Rattle.scratch.specs.Scratch.{lenCell}
 
 -- The distance of each pair of rows, in cells.
 unfoldable pub distanceCells : (ℕ → ℕ) → Table → List ℕ

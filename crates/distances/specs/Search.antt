@@ -9,7 +9,7 @@ use lib.ListN.{length, getD, drop}
 use Rattle.automata.specs.Runs.{Events, Machine, Sound, Near}
 use Rattle.tables.specs.Table.{machine, weightBy}
 use Rattle.rules.specs.Rules.{tableOf}
-use Rattle.scratch.specs.Scratch.{triangle, pairAt}
+use Rattle.pairs.specs.Pairs.{triangle, pairAt}
 
 -- The events and the machine that a search runs. It does not look at the start.
 abbrev pub eventsBy : ℕ → ℕ → Events

@@ -8,7 +8,7 @@ ghost use Rattle.tables.specs.Lists.{over};
 ghost use Rattle.rules.specs.Rules.{tableOf};
 ghost use Rattle.row_starts.specs.RowStarts.{rowStarts};
 ghost use Rattle.tables.specs.Table.{weightBy};
-ghost use Rattle.scratch.specs.Scratch.{pairAt, workable};
+ghost use Rattle.pairs.specs.Pairs.{pairAt, workable};
 ghost use Rattle.scratch.specs.Tests.{Tested};
 ghost use Rattle.distances.specs.Distances.{distanceCells, measured};
 ghost use Rattle.distances.specs.Search.{eventsBy, machineBy, Fits, Given, Begun, Visited, RowSwept, Swept, Settled, Ready, Risen, Lowered};
@@ -37,7 +37,7 @@ fn event_fits(
 {
     let i = scratch::target(cells, events, q, event);
     let j = scratch::target(cells, events, p, event);
-    scratch::pair(starts, scratch, i, j) <= less(level, weights::weight(mask, event))
+    pairs::pair(starts, scratch, i, j) <= less(level, weights::weight(mask, event))
 }
 
 // Whether the level fits rows q and p.
@@ -89,7 +89,7 @@ fn visit(
     requires { ⌜ (q < rows) × (p < q) ⌝ }
     ensures { λ r. ⌜ Visited (eventsBy mask events) (machineBy rows events (now (cells .entry)) (now (marks .entry))) level q p (now (scratch .entry)) (now (scratch .exit)) r ⌝ }
 {
-    let at = scratch::row_start(starts, q) + rules::wide(p);
+    let at = pairs::row_start(starts, q) + rules::wide(p);
     if scratch::cell(scratch, at) != level {
         return false;
     }
@@ -238,7 +238,7 @@ fn rise(
     requires { ⌜ Ready (eventsBy mask events) (machineBy rows events (now cells) (now marks)) level (now scratch) ⌝ }
     ensures { λ r. ⌜ Risen (eventsBy mask events) (machineBy rows events (now (cells .entry)) (now (marks .entry))) level (now (scratch .entry)) (now (scratch .exit)) r ⌝ }
 {
-    let count = scratch::pair_cells(rows);
+    let count = pairs::pair_cells(rows);
     lower(scratch, count, level);
     settle(mask, rows, events, cells, marks, scratch, level);
     some(scratch, count, level)
@@ -249,7 +249,7 @@ fn begin(mask: u32, rows: u16, events: u16, cells: &[u16], marks: &[u8], scratch
     requires { ⌜ Given (eventsBy mask events) (machineBy rows events (now cells) (now marks)) (now scratch) ⌝ }
     ensures { λ r. ⌜ Settled (eventsBy mask events) (machineBy rows events (now (cells .entry)) (now (marks .entry))) 0 (now (scratch .entry)) (now (scratch .exit)) ⌝ }
 {
-    scratch::clear(scratch, 0, scratch::pair_cells(rows));
+    scratch::clear(scratch, 0, pairs::pair_cells(rows));
     settle(mask, rows, events, cells, marks, scratch, 0);
 }
 
@@ -282,7 +282,7 @@ pub fn distances(
         (r ≡ workable T (length s))
         × (now (scratch .exit) ≡ measured mask T s)) ⌝ }
 {
-    if !scratch::workable(rows, events, start, cells, marks, scratch.len()) {
+    if !pairs::workable(rows, events, start, cells, marks, scratch.len()) {
         return false;
     }
     search(mask, rows as u16, events as u16, cells, marks, scratch);

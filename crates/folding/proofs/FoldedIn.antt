@@ -13,8 +13,9 @@ use Rattle.tables.specs.Lengths.{lead}
 use Rattle.tables.specs.Reduction.{order, kept, fold, similar}
 use Rattle.tables.proofs.Lists.{tabulate-length, tabulate-at}
 use Rattle.tables.proofs.Over.{over-length, over-inside, over-before, over-behind, over-again, over-swap}
-use Rattle.scratch.specs.Scratch.{leadsAt, queueAt, foldsAt, lenCell, leadAt, workable, cleared}
-use Rattle.scratch.proofs.Soundness.{workable-shape}
+use Rattle.pairs.specs.Pairs.{leadsAt, queueAt, foldsAt, leadAt, workable}
+use Rattle.scratch.specs.Scratch.{lenCell, cleared}
+use Rattle.pairs.proofs.Works.{workable-shape}
 use Rattle.scratch.proofs.Order.{order-few, order-meaning}
 use Rattle.lengths.specs.Lengths.{lengthsIn, Holds}
 use Rattle.lengths.proofs.Found.{lengths-size, lengths-not, lengths-beyond, lengths-hold}

@@ -6,7 +6,7 @@ use lib.ListN.{length, replicate}
 use Rattle.tables.specs.Lists.{tabulate, over}
 use Rattle.tables.specs.Table.{Table, Offset, machine, eventsOf, weightBy}
 use Rattle.tables.specs.Reduction.{fold}
-use Rattle.scratch.specs.Scratch.{queueAt, foldsAt, workable}
+use Rattle.pairs.specs.Pairs.{queueAt, foldsAt, workable}
 use Rattle.lengths.specs.Lengths.{lengthsIn}
 
 -- The row into which each row folds, in cells.

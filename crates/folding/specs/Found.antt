@@ -10,7 +10,7 @@ use Rattle.automata.specs.Runs.{Events, Machine}
 use Rattle.tables.specs.Lists.{tabulate, filter, some, first, sift, over}
 use Rattle.tables.specs.Table.{Offset}
 use Rattle.tables.specs.Reduction.{similarBy, order, kept, fold}
-use Rattle.scratch.specs.Scratch.{leadAt, queued, pairAt, queueAt, foldsAt, needed}
+use Rattle.pairs.specs.Pairs.{leadAt, queued, pairAt, queueAt, foldsAt, needed}
 use Rattle.scratch.specs.Order.{levelOf, levelsOf, orderOf}
 use Rattle.lengths.specs.Lengths.{Holds, lenOf, depthAt}
 

@@ -2,7 +2,7 @@
 ghost use mathlib.Core.Path.{_≡_};
 ghost use lib.ListN.{length};
 ghost use Rattle.rules.specs.Rules.{tableOf, offsetOf};
-ghost use Rattle.scratch.specs.Scratch.{workable};
+ghost use Rattle.pairs.specs.Pairs.{workable};
 ghost use Rattle.folding.specs.Folding.{foldedIn};
 
 mod folds;
@@ -27,6 +27,6 @@ pub fn fold_rows(
     }
     let n = rows as u16;
     folds::fold_all(offset, scratch, n);
-    scratch::clear(scratch, scratch::queue_at(n), scratch::folds_at(n));
+    scratch::clear(scratch, pairs::queue_at(n), pairs::folds_at(n));
     true
 }

@@ -8,7 +8,8 @@ use lib.ListN.{getD}
 use Rattle.automata.specs.Runs.{Len, len, endless}
 use Rattle.tables.specs.Lengths.{oneLess}
 use Rattle.tables.proofs.Lengths.{Below}
-use Rattle.scratch.specs.Scratch.{leadsAt, leadAt, lenCell}
+use Rattle.pairs.specs.Pairs.{leadsAt, leadAt}
+use Rattle.scratch.specs.Scratch.{lenCell}
 use Rattle.lengths.specs.Lengths.{lenOf}
 
 pub cell-endless : (x : ℕ) → x ≡ 65535 → lenOf x ≡ endless

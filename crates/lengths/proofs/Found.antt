@@ -11,9 +11,9 @@ use Rattle.automata.specs.Runs.{Events, Machine}
 use Rattle.tables.specs.Lengths.{distance, lead, oneLess, depth}
 use Rattle.tables.specs.Table.{Table, machine, eventsOf, weightBy}
 use Rattle.tables.proofs.Lengths.{distance-below, lead-below}
-use Rattle.scratch.specs.Scratch.{triangle, pairAt, workable}
-use Rattle.scratch.proofs.Pairs.{pair-lift}
-use Rattle.scratch.proofs.Works.{workable-fine}
+use Rattle.pairs.specs.Pairs.{triangle, pairAt, workable}
+use Rattle.pairs.proofs.Pairs.{pair-lift}
+use Rattle.pairs.proofs.Works.{workable-fine}
 use Rattle.distances.specs.Distances.{measured}
 use Rattle.distances.proofs.Measured.{measured-not, measured-pair, measured-length, measured-rest}
 use Rattle.depths.specs.Depths.{plumbed}

@@ -8,7 +8,8 @@ use lib.ListN.{length, getD}
 use Rattle.automata.specs.Runs.{Events, Machine, Len, len, endless}
 use Rattle.tables.specs.Lengths.{distance, lead, oneLess}
 use Rattle.tables.specs.Table.{Table}
-use Rattle.scratch.specs.Scratch.{pairAt, leadsAt, leadAt, needed, lenCell}
+use Rattle.pairs.specs.Pairs.{pairAt, leadsAt, leadAt, needed}
+use Rattle.scratch.specs.Scratch.{lenCell}
 use Rattle.distances.specs.Distances.{measured}
 use Rattle.depths.specs.Depths.{plumbed}
 

@@ -2,7 +2,7 @@
 ghost use mathlib.Core.Path.{_≡_};
 ghost use lib.ListN.{length};
 ghost use Rattle.rules.specs.Rules.{tableOf};
-ghost use Rattle.scratch.specs.Scratch.{leadAt, workable};
+ghost use Rattle.pairs.specs.Pairs.{leadAt, workable};
 ghost use Rattle.lengths.specs.Lengths.{lengthsIn, lenOf, depthAt};
 
 // A length that has no end.
@@ -33,7 +33,7 @@ pub fn find_lengths(
 pub fn lead(scratch: &[u16], rows: u16, row: u16) -> u16
     ensures { λ r. ⌜ r ≡ leadAt (now (scratch .entry)) rows row ⌝ }
 {
-    scratch::cell(scratch, scratch::pair_cells(rows) + rules::wide(row))
+    scratch::cell(scratch, pairs::pair_cells(rows) + rules::wide(row))
 }
 
 // The depth of a row: its lead less one.

@@ -15,10 +15,11 @@ use Rattle.tables.proofs.Theorems.{rows-kept, never-grows, far-offset, fewest}
 use Rattle.rules.specs.Rules.{leftBy}
 use Rattle.rules.specs.declared.Verdict.{Verdict}
 use Rattle.rules.specs.declared.Verdict.the-variants.{Fine, Refused}
-use Rattle.scratch.specs.Scratch.{needed, scratchCells, cleared}
-use Rattle.scratch.proofs.Triangle.{needed-value}
+use Rattle.pairs.specs.Pairs.{needed}
+use Rattle.scratch.specs.Scratch.{scratchCells, cleared}
+use Rattle.pairs.proofs.Triangle.{needed-value}
 use Rattle.scratch.proofs.Cells.{clear-work}
-use Rattle.scratch.proofs.Works.{valid-workable}
+use Rattle.pairs.proofs.Works.{valid-workable}
 use Rattle.lengths.specs.Lengths.{lengthsIn}
 use Rattle.lengths.proofs.Found.{lengths-size, lengths-hold, lengths-beyond}
 use Rattle.offsets.specs.declared.Listed.{Listed}

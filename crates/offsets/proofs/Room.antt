@@ -14,8 +14,9 @@ use Rattle.rules.specs.declared.Verdict.{Verdict}
 use Rattle.rules.specs.declared.Verdict.the-variants.{Fine, Refused}
 use Rattle.rules.proofs.Checks.{unbroken, passed}
 use Rattle.rules.proofs.First.{room-broken, room-kept, table-refused, table-then, fine-valid, more-fine, valid-masked}
-use Rattle.scratch.specs.Scratch.{needed, scratchCells}
-use Rattle.scratch.proofs.Triangle.{needed-value}
+use Rattle.pairs.specs.Pairs.{needed}
+use Rattle.scratch.specs.Scratch.{scratchCells}
+use Rattle.pairs.proofs.Triangle.{needed-value}
 use Rattle.offsets.specs.Sheet.{entries, roomChecks, verdict}
 
 -- The checks stop at the first buffer that is short.

@@ -8,7 +8,8 @@ use lib.Dec.{ltb}
 use borrow.Author.Tests.{lt-ltb, le-ltb, eq-eqb, ne-eqb}
 use Rattle.automata.specs.Runs.{Len, len, endless}
 use Rattle.tables.specs.Lengths.{oneLess}
-use Rattle.scratch.specs.Scratch.{pairAt, leadAt, lenCell}
+use Rattle.pairs.specs.Pairs.{pairAt, leadAt}
+use Rattle.scratch.specs.Scratch.{lenCell}
 use Rattle.lengths.specs.Lengths.{lenOf}
 use Rattle.lengths.proofs.Cells.{cell-endless, cell-finite}
 use Rattle.levels.specs.Levels.{till}

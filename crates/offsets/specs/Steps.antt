@@ -5,7 +5,8 @@ use Prim.Native.Nat.{ℕ, zero, suc, _+_, _-_, _≤_, _<_, min}
 use lib.Dec.{eqb, ltb}
 use lib.ListN.{length, getD, set}
 use Rattle.automata.proofs.Count.{count}
-use Rattle.scratch.specs.Scratch.{pairAt, leadAt, lenCell}
+use Rattle.pairs.specs.Pairs.{pairAt, leadAt}
+use Rattle.scratch.specs.Scratch.{lenCell}
 use Rattle.lengths.specs.Lengths.{lenOf, depthAt}
 use Rattle.levels.specs.Levels.{till}
 

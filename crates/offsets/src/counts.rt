@@ -35,7 +35,7 @@ fn nearer(starts: &[u32], scratch: &[u16], rows: u16, q: u16, p: u16, least: u16
     ensures { λ r. ⌜ r ≡ nearerOf rows (now (scratch .entry)) q p least ⌝ }
 {
     if ahead(scratch, rows, q, p) {
-        let distance = scratch::pair(starts, scratch, q, p);
+        let distance = pairs::pair(starts, scratch, q, p);
         if distance < least {
             return distance;
         }

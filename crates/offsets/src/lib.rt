@@ -16,7 +16,7 @@ pub enum Listed {
 fn check_room(rows: u16, list: usize, scratch: usize) -> rules::Verdict
     ensures { λ r. ⌜ r ≡ judged (roomChecks rows list scratch) ⌝ }
 {
-    if scratch < scratch::needed(rows) {
+    if scratch < pairs::needed(rows) {
         return rules::Verdict::Refused(7, 0);
     }
     if list < 2 * rules::wide(rows) + 1 {
@@ -74,7 +74,7 @@ pub fn write_sheet(
             lengths::find_lengths(mask, rows, events, start, cells, marks, scratch);
             let n = rows as u16;
             counts::fill(scratch, n, list);
-            scratch::clear(scratch, 0, scratch::needed(n));
+            scratch::clear(scratch, 0, pairs::needed(n));
             Listed::Entries(2 * rows + 1)
         }
     }

@@ -9,7 +9,7 @@ use lib.Seq.{getD-set-other}
 use Rattle.automata.proofs.Runs.{Way, event, _then_, less}
 use Rattle.tables.specs.Table.{Table, machine, eventsOf, weightBy}
 use Rattle.rules.specs.Rules.{tableOf}
-use Rattle.scratch.proofs.Triangle.{eq-or-ne}
+use Rattle.scratch.proofs.Numbers.{eq-or-ne}
 use Rattle.quick_depths.specs.Leads.{leftAt, seenAt, Space}
 use Rattle.quick_depths.specs.Rounds.{Wide, Seen, ByEvent, From, Spread}
 

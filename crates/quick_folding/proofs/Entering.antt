@@ -18,7 +18,7 @@ use Rattle.tables.proofs.Folds.{order-mem}
 use Rattle.rules.specs.Rules.{winch}
 use Rattle.rules.proofs.Shape.{Shape}
 use Rattle.scratch.specs.Scratch.{fewCells}
-use Rattle.scratch.proofs.Triangle.{eq-or-ne}
+use Rattle.scratch.proofs.Numbers.{eq-or-ne}
 use Rattle.scratch.proofs.Works.{within-fine}
 use Rattle.scratch.proofs.Soundness.{within-shape, within-sound}
 use Rattle.levels.specs.Levels.{rowAt}

@@ -16,7 +16,7 @@ use Rattle.automata.specs.Runs.{Events, Machine, Sound, Light}
 use Rattle.tables.specs.Table.{Table, weightBy, machine, eventsOf, offset}
 use Rattle.tables.specs.Reduction.{order, fold}
 use Rattle.tables.proofs.Counted.{mask-light}
-use Rattle.scratch.proofs.Triangle.{eq-or-ne}
+use Rattle.scratch.proofs.Numbers.{eq-or-ne}
 use Rattle.levels.specs.Levels.{rowAt, needAt}
 use Rattle.levels.specs.Sweep.{Rests, Placed, keptTo, listed, Led, Labelled, Settled}
 use Rattle.levels.proofs.Order.{at-row, one-place}

@@ -9,7 +9,7 @@ use native.Mathlib.Decide.{decLt}
 use native.Mathlib.Numerals.{add-one}
 use borrow.Author.Tests.{lt-ltb, le-ltb, eq-eqb, ne-eqb}
 use lib.ListN.{length, getD, set}
-use Rattle.scratch.proofs.Triangle.{eq-or-ne}
+use Rattle.scratch.proofs.Numbers.{eq-or-ne}
 use Rattle.splitting.specs.Places.{nxtAt, jumpAt, Canon}
 use Rattle.quick_folding.specs.Parts.{listAt, seats, seatOf, Seated, leading, following, joining, Seating, Takable, Taken}
 use Rattle.quick_folding.proofs.Moves.{set2-size, set2-other, set2-first, set2-second}

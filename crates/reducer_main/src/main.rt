@@ -37,7 +37,7 @@ fn is_clear(cells: &[u16], count: usize) -> bool {
 
 // After a reduction, says so if the scratch for so many rows is not cleared.
 fn put_uncleared(out: &mut [u8], at: usize, scratch: &[u16], rows: u16) -> usize {
-    if is_clear(scratch, scratch::needed(rows)) {
+    if is_clear(scratch, pairs::needed(rows)) {
         return at;
     }
     put_text(out, at, b"scratch not cleared\n")

@@ -15,7 +15,7 @@ use Rattle.automata.proofs.Tests.{either}
 use Rattle.tables.specs.Lists.{some, position, place, sift}
 use Rattle.tables.proofs.Lists.{pairwise-map, sift-more, sift-all, sift-apart, Apart}
 use Rattle.tables.proofs.Over.{part-length, part-at}
-use Rattle.scratch.proofs.Triangle.{eq-or-ne}
+use Rattle.scratch.proofs.Numbers.{eq-or-ne}
 use Rattle.renumbering.specs.Line.{foldRow, lineIn, numberOf, Lined, Frame}
 
 -- ---- lists that are sifted

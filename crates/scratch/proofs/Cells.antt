@@ -1,8 +1,8 @@
--- The pair that a place belongs to, and cells that are cleared.
+-- Cells that are cleared.
 use Prim.Native.Nat.{ℕ, zero, suc, _+_, _-_, _*_, _≤_, _<_}
 use mathlib.Core.Path.{_≡_, refl, sym, ap, subst, _∙_}
 use mathlib.Core.List.{List, [], _∷_, _++_}
-use native.Mathlib.Nat.{le-of-lt, zero-add}
+use native.Mathlib.Nat.{zero-add}
 use native.Mathlib.Omega.{arith}
 use native.Mathlib.Decide.{decLt}
 use borrow.Author.Tests.{lt-ltb, le-ltb}
@@ -10,32 +10,8 @@ use lib.ListN.{length, getD, take, drop, set, replicate, length-replicate, getD-
 use lib.Seq.{ext-getD}
 use Rattle.tables.specs.Lists.{over}
 use Rattle.tables.proofs.Over.{over-length, over-set, over-over, over-before, over-inside, over-behind, take-before-over, drop-over}
-use Rattle.scratch.specs.Scratch.{triangle, pairFrom, pairAt, cleared}
+use Rattle.scratch.specs.Scratch.{cleared}
 
--- ---- two rows, each row's first cell being `from` of it
-module _ (from : ℕ → ℕ) (s : List ℕ) (q p : ℕ) where
-  pub from-greater : p < q → pairFrom from s q p ≡ getD s (from q + p) 0
-  unfolding pairFrom
-  from-greater h = rw (lt-ltb p q h)
-
-  pub from-less : q < p → pairFrom from s q p ≡ getD s (from p + q) 0
-  unfolding pairFrom
-  from-less h = rw (le-ltb p q (le-of-lt h), lt-ltb q p h)
-
-  pub from-same : q ≡ p → pairFrom from s q p ≡ 0
-  unfolding pairFrom
-  from-same e = rw (le-ltb p q (omega arith), le-ltb q p (omega arith))
-
-pub pair-greater : (s : List ℕ) (q p : ℕ) → p < q → pairAt s q p ≡ getD s (triangle q + p) 0
-pair-greater = from-greater triangle
-
-pub pair-less : (s : List ℕ) (q p : ℕ) → q < p → pairAt s q p ≡ getD s (triangle p + q) 0
-pair-less = from-less triangle
-
-pub pair-same : (s : List ℕ) (q p : ℕ) → q ≡ p → pairAt s q p ≡ 0
-pair-same = from-same triangle
-
--- ---- clearing
 pub clear-short : (s : List ℕ) (from to : ℕ) → length s < to → cleared s from to ≡ s
 unfolding cleared
 clear-short s from to h = rw (lt-ltb (length s) to h)

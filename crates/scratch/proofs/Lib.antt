@@ -1,7 +1,5 @@
-pub mod Triangle
+pub mod Numbers
 pub mod Cells
-pub mod RowStarts
-pub mod Pairs
 pub mod Works
 pub mod Soundness
 pub mod Order

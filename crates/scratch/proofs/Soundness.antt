@@ -9,7 +9,7 @@ use Rattle.tables.specs.Table.{Table, machine, eventsOf}
 use Rattle.rules.specs.Rules.{winch, contentChecks}
 use Rattle.rules.proofs.Checks.{unbroken, passed, all-inside}
 use Rattle.rules.proofs.Shape.{Shape, table-fine}
-use Rattle.scratch.specs.Scratch.{needed, workableIn, workable}
+use Rattle.scratch.specs.Scratch.{workableIn}
 use Rattle.scratch.proofs.Works.{within-fine}
 
 module _ (need : ℕ → ℕ) (T : Table) (room : ℕ) (w : workableIn need T room ≡ true) where
@@ -27,10 +27,3 @@ module _ (need : ℕ → ℕ) (T : Table) (room : ℕ) (w : workableIn need T ro
         start-in = within-shape .start-in;
         target-in = λ q a hq ha. cells-in (q * T .events + a) (subst (λ (n : ℕ). q * T .events + a < n) (sym (within-shape .all-cells)) (digits-lt hq ha));
       }
-
--- The same of the room that pairs need.
-pub workable-shape : (T : Table) (room : ℕ) → workable T room ≡ true → Shape winch T
-workable-shape = within-shape needed
-
-pub workable-sound : (T : Table) (room : ℕ) → workable T room ≡ true → (weight : ℕ → ℕ) → Sound (eventsOf weight T) (machine T)
-workable-sound = within-sound needed

@@ -11,7 +11,7 @@ use Rattle.rules.specs.declared.Limits.{Limits}
 use Rattle.rules.specs.declared.Verdict.{Verdict}
 use Rattle.rules.specs.declared.Verdict.the-variants.{Fine, Refused}
 use Rattle.rules.proofs.Shape.{table-fine, table-valid}
-use Rattle.scratch.specs.Scratch.{needed, fine, workableIn, workable}
+use Rattle.scratch.specs.Scratch.{fine, workableIn}
 
 -- No rule is broken just where the verdict is fine.
 is-fine : (v : Verdict) → fine v ≡ true → v ≡ Fine
@@ -63,13 +63,3 @@ module _ (need : ℕ → ℕ) (T : Table) (room : ℕ) where
   pub valid-within : Valid T → need (T .rows) ≤ room → workableIn need T room ≡ true
   unfolding workableIn
   valid-within v h = rw (table-valid T (v .bytes) .1 v) (le-leb (need (T .rows)) room h)
-
--- The same of the room that pairs need.
-pub workable-fine : (T : Table) (room : ℕ) → workable T room ≡ true → (judged (tableChecks winch T) ≡ Fine) × (needed (T .rows) ≤ room)
-workable-fine = within-fine needed
-
-pub workable-valid : (T : Table) (room : ℕ) → workable T room ≡ true → ((i : ℕ) → getD (T .marks) i 0 < 256) → Valid T × (needed (T .rows) ≤ room)
-workable-valid = within-valid needed
-
-pub valid-workable : (T : Table) (room : ℕ) → Valid T → needed (T .rows) ≤ room → workable T room ≡ true
-valid-workable = valid-within needed

@@ -12,7 +12,7 @@ use Rattle.rules.specs.Rules.{maskRule}
 use Rattle.rules.proofs.Checks.{unbroken}
 use Rattle.rules.specs.declared.Verdict.{Verdict}
 use Rattle.rules.specs.declared.Verdict.the-variants.{Fine, Refused}
-use Rattle.scratch.proofs.Triangle.{needed-value, triangle-le, triangle-square}
+use Rattle.pairs.proofs.Triangle.{needed-value, triangle-le, triangle-square}
 use Rattle.offsets.specs.declared.Listed.{Listed}
 use Rattle.offsets.specs.declared.Listed.the-variants as listed
 use Rattle.offsets.specs.Sheet.{entries, verdict, answerBy, Promise}

@@ -10,7 +10,7 @@ use lib.Seq.{getD-set-same, getD-set-other, take-set-le, drop-set-lt, take-take,
 use Rattle.tables.specs.Lists.{over}
 use Rattle.tables.proofs.Over.{over-length, over-before, over-inside, over-behind, take-before-over, drop-over}
 use Rattle.scratch.specs.Scratch.{cleared}
-use Rattle.scratch.proofs.Triangle.{eq-or-ne}
+use Rattle.scratch.proofs.Numbers.{eq-or-ne}
 use Rattle.splitting.specs.Places.{Frame, Filled, Span}
 
 pub frame-none : {n : ℕ} {s : List ℕ} → Frame n s s

@@ -9,9 +9,10 @@ use lib.ListN.{length, getD}
 use Rattle.automata.proofs.Tests.{clash}
 use Rattle.tables.specs.Table.{Table, Offset, machine, eventsOf, weightBy}
 use Rattle.rules.specs.Rules.{judged, winch, tableChecks}
-use Rattle.scratch.specs.Scratch.{needed, scratchCells, fewCells, fine, workableIn, workable}
+use Rattle.pairs.specs.Pairs.{needed, workable}
+use Rattle.scratch.specs.Scratch.{scratchCells, fewCells, fine, workableIn}
 use Rattle.scratch.specs.Folds.{Folds}
-use Rattle.scratch.proofs.Triangle.{needed-value}
+use Rattle.pairs.proofs.Triangle.{needed-value}
 use Rattle.folding.specs.Folding.{foldedIn}
 use Rattle.folding.proofs.FoldedIn.{folded-not}
 use Rattle.ways.specs.Ways.{FoldedBy, Folding}

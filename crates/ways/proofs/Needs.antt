@@ -7,8 +7,9 @@ use native.Mathlib.Decide.{le-ind}
 use borrow.Author.Tests.{le-leb}
 use Rattle.automata.proofs.Tests.{not-true}
 use Rattle.tables.specs.Table.{Table}
-use Rattle.scratch.specs.Scratch.{triangle, needed, fewCells, workableIn}
-use Rattle.scratch.proofs.Triangle.{needed-value}
+use Rattle.pairs.specs.Pairs.{triangle, needed}
+use Rattle.scratch.specs.Scratch.{fewCells, workableIn}
+use Rattle.pairs.proofs.Triangle.{needed-value}
 use Rattle.scratch.proofs.Soundness.{within-shape}
 use Rattle.scratch.proofs.Works.{within-fine}
 use Rattle.ways.specs.Ways.{needOf}

@@ -10,9 +10,10 @@ use Rattle.tables.specs.Lists.{tabulate, over}
 use Rattle.tables.specs.Table.{Table, Offset}
 use Rattle.tables.proofs.Lists.{tabulate-length}
 use Rattle.tables.proofs.Over.{over-length, over-behind, front-at}
-use Rattle.scratch.specs.Scratch.{triangle, scratchCells, workable}
-use Rattle.scratch.proofs.Triangle.{needed-value}
-use Rattle.scratch.proofs.Works.{workable-fine}
+use Rattle.pairs.specs.Pairs.{triangle, workable}
+use Rattle.scratch.specs.Scratch.{scratchCells}
+use Rattle.pairs.proofs.Triangle.{needed-value}
+use Rattle.pairs.proofs.Works.{workable-fine}
 use Rattle.folding.specs.Folding.{foldedIn}
 use Rattle.folding.proofs.FoldedIn.{folded-size, folded-fold, folded-lead, folded-beyond}
 use Rattle.ways.specs.Ways.{FoldedBy}

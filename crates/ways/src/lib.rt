@@ -18,7 +18,7 @@ pub fn needed(way: Way, rows: u16) -> usize
     ensures { λ r. ⌜ r ≡ needOf way rows ⌝ }
 {
     match way {
-        Way::First => scratch::needed(rows),
+        Way::First => pairs::needed(rows),
         Way::Second => 12 * rules::wide(rows),
     }
 }
@@ -50,7 +50,7 @@ fn fold_pairs(
         Folding scratchCells mask (offsetOf offset) T (now (scratch .entry)) (now (scratch .exit))) ⌝ }
 {
     if folding::fold_rows(offset, mask, rows, events, start, cells, marks, scratch) {
-        move_down(scratch, scratch::pair_cells(rows as u16), 3 * rows);
+        move_down(scratch, pairs::pair_cells(rows as u16), 3 * rows);
     }
 }
 
@@ -72,7 +72,7 @@ fn fold_levels(
     if 1024 < rows {
         return;
     }
-    if scratch.len() < scratch::needed(rows as u16) {
+    if scratch.len() < pairs::needed(rows as u16) {
         return;
     }
     quick_folding::fold_rows(offset, mask, rows, events, start, cells, marks, scratch);

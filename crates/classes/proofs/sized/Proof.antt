@@ -4,7 +4,7 @@ use native.Mathlib.Omega.{arith}
 use borrow.Author.Needs.{needs}
 use borrow.Author.Tests.{leb-true, leb-false}
 use lib.ListN.{length}
-use Rattle.scratch.proofs.Triangle.{product-bound}
+use Rattle.scratch.proofs.Numbers.{product-bound}
 use Rattle.classes.proofs.sized.Statement.{statement}
 use Rattle.classes.proofs.sized.Tie as tie
 

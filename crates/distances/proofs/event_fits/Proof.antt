@@ -1,4 +1,4 @@
-use Rattle.scratch.proofs.RowStarts.{pair-right}
+use Rattle.pairs.proofs.RowStarts.{pair-right}
 use borrow.Author.Needs.{needs}
 use Rattle.distances.proofs.event_fits.Statement.{statement}
 use Rattle.distances.proofs.event_fits.Tie as tie

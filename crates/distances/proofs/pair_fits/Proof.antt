@@ -10,7 +10,7 @@ use borrow.Author.Count.{below-more}
 use borrow.Author.Tests.{leb-true, leb-false, not-true, not-false}
 use lib.ListN.{getD}
 use Rattle.tables.specs.Table.{markOf, weightBy}
-use Rattle.scratch.specs.Scratch.{pairAt}
+use Rattle.pairs.specs.Pairs.{pairAt}
 use Rattle.distances.proofs.pair_fits.Statement.{statement}
 use Rattle.distances.proofs.pair_fits.Tie as tie
 

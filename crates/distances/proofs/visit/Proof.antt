@@ -1,9 +1,9 @@
 use Prim.Native.Nat.{_+_}
 use mathlib.Core.Path.{_≡_}
 use native.Mathlib.Omega.{arith}
-use Rattle.scratch.specs.Scratch.{triangle}
-use Rattle.scratch.proofs.Triangle.{triangle-bound}
-use Rattle.scratch.proofs.RowStarts.{start-right}
+use Rattle.pairs.specs.Pairs.{triangle}
+use Rattle.pairs.proofs.Triangle.{triangle-bound}
+use Rattle.pairs.proofs.RowStarts.{start-right}
 use Rattle.distances.proofs.Visits.{visit-other, visit-fits, visit-raised}
 use borrow.Author.Needs.{needs}
 use Rattle.distances.proofs.visit.Statement.{statement}

@@ -1,5 +1,5 @@
 use native.Mathlib.Omega.{arith}
-use Rattle.scratch.proofs.Triangle.{triangle-bound}
+use Rattle.pairs.proofs.Triangle.{triangle-bound}
 use Rattle.lengths.proofs.Cells.{lead-read}
 use borrow.Author.Needs.{needs}
 use Rattle.lengths.proofs.lead.Statement.{statement}

@@ -1,5 +1,5 @@
 use native.Mathlib.Omega.{arith}
-use Rattle.scratch.proofs.Triangle.{product-bound}
+use Rattle.scratch.proofs.Numbers.{product-bound}
 use Rattle.ways.specs.Ways.{needOf}
 use Rattle.reduction.proofs.Room.{same-product, less-product, short-cells, short-marks, short-records, short-scratch, all-fits}
 use borrow.Author.Needs.{needs}

@@ -1,7 +1,7 @@
 use mathlib.Core.Path.{_∙_}
 use Rattle.scratch.proofs.Cells.{same-place}
 use native.Mathlib.Omega.{arith}
-use Rattle.scratch.proofs.Triangle.{product-bound}
+use Rattle.scratch.proofs.Numbers.{product-bound}
 use borrow.Author.Needs.{needs}
 use Rattle.scratch.proofs.target.Statement.{statement}
 use Rattle.scratch.proofs.target.Tie as tie

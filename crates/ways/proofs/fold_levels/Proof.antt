@@ -2,7 +2,7 @@ use mathlib.Core.Path.{refl}
 use lib.ListN.{length}
 use Rattle.rules.specs.Rules.{tableOf, offsetOf}
 use Rattle.scratch.specs.Scratch.{scratchCells}
-use Rattle.scratch.proofs.Triangle.{needed-value}
+use Rattle.pairs.proofs.Triangle.{needed-value}
 use Rattle.ways.proofs.Needs.{many-rows, short-room}
 use Rattle.ways.proofs.Choice.{not-folded, levels-done}
 use native.Mathlib.Omega.{arith}

@@ -1,7 +1,7 @@
 use mathlib.Core.Path.{refl, sym, _∙_}
 use lib.ListN.{length}
 use Rattle.rules.specs.Rules.{tableOf, offsetOf}
-use Rattle.scratch.proofs.Soundness.{workable-shape}
+use Rattle.pairs.proofs.Works.{workable-shape}
 use Rattle.ways.proofs.Pairs.{pairs-fit, pairs-folded}
 use Rattle.ways.proofs.Choice.{pairs-not, pairs-done}
 use native.Mathlib.Omega.{arith}

@@ -1,6 +1,6 @@
 use mathlib.Core.Path.{sym, ap, _∙_}
 use Prim.Native.Nat.{ℕ, _*_}
-use Rattle.scratch.proofs.Triangle.{needed-value}
+use Rattle.pairs.proofs.Triangle.{needed-value}
 use Rattle.ways.specs.Ways.{needOf}
 use Rattle.ways.specs.declared.Way.{Way}
 use borrow.Author.Needs.{needs}

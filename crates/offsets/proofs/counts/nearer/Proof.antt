@@ -1,4 +1,4 @@
-use Rattle.scratch.proofs.RowStarts.{pair-right}
+use Rattle.pairs.proofs.RowStarts.{pair-right}
 use Rattle.offsets.proofs.Rows.{nearer-not, nearer-less, nearer-more}
 use borrow.Author.Needs.{needs}
 use Rattle.offsets.proofs.counts.nearer.Statement.{statement}

@@ -1,10 +1,11 @@
 use mathlib.Core.Path.{ap, _∙_}
-use Rattle.scratch.specs.Scratch.{triangle}
-use Rattle.scratch.proofs.Triangle.{product-bound, triangle-square, triangle-value}
+use Rattle.pairs.specs.Pairs.{triangle}
+use Rattle.scratch.proofs.Numbers.{product-bound}
+use Rattle.pairs.proofs.Triangle.{triangle-square, triangle-value}
 use native.Mathlib.Omega.{arith}
 use borrow.Author.Needs.{needs}
-use Rattle.scratch.proofs.pair_cells.Statement.{statement}
-use Rattle.scratch.proofs.pair_cells.Tie as tie
+use Rattle.pairs.proofs.pair_cells.Statement.{statement}
+use Rattle.pairs.proofs.pair_cells.Tie as tie
 
 mul-result : tie.Need-mul-result
 mul-result c = omega (arith, c .wide .ensures, product-bound (c .wide .result) (c .wide .result) (omega arith) (omega arith))

@@ -1,11 +1,11 @@
 use mathlib.Core.Path.{sym}
 use native.Mathlib.Omega.{arith}
 use Rattle.rules.specs.Rules.{tableOf}
-use Rattle.scratch.specs.Scratch.{needed}
+use Rattle.pairs.specs.Pairs.{needed}
 use Rattle.scratch.proofs.Works.{small-rows, not-fine, fine-room}
 use borrow.Author.Needs.{needs}
-use Rattle.scratch.proofs.workable.Statement.{statement}
-use Rattle.scratch.proofs.workable.Tie as tie
+use Rattle.pairs.proofs.workable.Statement.{statement}
+use Rattle.pairs.proofs.workable.Tie as tie
 
 returns : tie.Need-returns
 returns c =

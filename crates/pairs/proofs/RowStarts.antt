@@ -8,9 +8,10 @@ use lib.ListN.{length, getD, List·getD-eq-default}
 use Rattle.tables.proofs.Lists.{read-same}
 use Rattle.row_starts.specs.RowStarts.{rowStarts}
 use Rattle.row_starts.proofs.Rule.{entries, entry}
-use Rattle.scratch.specs.Scratch.{triangle, startIn, pairFrom, pairAt}
-use Rattle.scratch.proofs.Cells.{from-greater, from-less, from-same, pair-greater, pair-less, pair-same}
-use Rattle.scratch.proofs.Triangle.{lt-or-ge, triangle-product, triangle-bound, triangle-next, triangle-one}
+use Rattle.pairs.specs.Pairs.{triangle, startIn, pairFrom, pairAt}
+use Rattle.pairs.proofs.Cells.{from-greater, from-less, from-same, pair-greater, pair-less, pair-same}
+use Rattle.scratch.proofs.Numbers.{lt-or-ge}
+use Rattle.pairs.proofs.Triangle.{triangle-product, triangle-bound, triangle-next, triangle-one}
 
 pub start-stored : (starts : List ℕ) (i : ℕ) → i < length starts → startIn starts i ≡ getD starts i 0
 unfolding startIn

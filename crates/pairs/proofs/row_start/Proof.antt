@@ -2,9 +2,9 @@ use mathlib.Core.Path.{sym, ap, _∙_}
 use lib.ListN.{getD}
 use native.Mathlib.Omega.{arith}
 use borrow.Author.Needs.{needs}
-use Rattle.scratch.proofs.RowStarts.{start-stored, start-beyond}
-use Rattle.scratch.proofs.row_start.Statement.{statement}
-use Rattle.scratch.proofs.row_start.Tie as tie
+use Rattle.pairs.proofs.RowStarts.{start-stored, start-beyond}
+use Rattle.pairs.proofs.row_start.Statement.{statement}
+use Rattle.pairs.proofs.row_start.Tie as tie
 
 cast-result : tie.Need-cast-result
 cast-result c = omega (arith, c .shared-slice-known2 .given (c .before .before .wide .result) .fits)

@@ -2,11 +2,11 @@ use mathlib.Core.Path.{sym, ap₂, _∙_}
 use Prim.Native.Nat.{_+_}
 use lib.ListN.{getD}
 use native.Mathlib.Omega.{arith}
-use Rattle.scratch.proofs.RowStarts.{start-bound}
-use Rattle.scratch.proofs.Cells.{from-greater, from-less, from-same}
+use Rattle.pairs.proofs.RowStarts.{start-bound}
+use Rattle.pairs.proofs.Cells.{from-greater, from-less, from-same}
 use borrow.Author.Needs.{needs}
-use Rattle.scratch.proofs.pair.Statement.{statement}
-use Rattle.scratch.proofs.pair.Tie as tie
+use Rattle.pairs.proofs.pair.Statement.{statement}
+use Rattle.pairs.proofs.pair.Tie as tie
 
 add-cell : tie.Need-add-cell
 add-cell c =

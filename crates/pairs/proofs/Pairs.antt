@@ -9,9 +9,10 @@ use lib.Seq.{length-take-le, take-add, getD-append-add, getD-take, getD-drop, ge
 use Rattle.tables.specs.Lists.{tabulate, over}
 use Rattle.tables.proofs.Lists.{tabulate-length, tabulate-at, tabulate-same}
 use Rattle.tables.proofs.Over.{over-length, take-over, drop-over}
-use Rattle.scratch.specs.Scratch.{triangle, pairAt, pairs}
-use Rattle.scratch.proofs.Cells.{pair-greater, pair-less, pair-same}
-use Rattle.scratch.proofs.Triangle.{lt-or-ge, eq-or-ne, triangle-next, triangle-one}
+use Rattle.pairs.specs.Pairs.{triangle, pairAt, pairs}
+use Rattle.pairs.proofs.Cells.{pair-greater, pair-less, pair-same}
+use Rattle.scratch.proofs.Numbers.{lt-or-ge, eq-or-ne}
+use Rattle.pairs.proofs.Triangle.{triangle-next, triangle-one}
 
 -- ---- two rows
 

@@ -1,23 +1,13 @@
 -- The triangle of pairs: where its rows begin, and that no two pairs share a cell.
 use Prim.Native.Nat.{ℕ, zero, suc, _+_, _-_, _*_, _/_, _≤_, _<_}
 use mathlib.Core.Path.{_≡_, refl, ap, _∙_}
-use mathlib.Core.Logic.{_⊎_, inl, inr, ⊎-elim}
-use native.Mathlib.Nat.{mul-suc, suc-mul, mul-le-mul, eq-or-lt-of-le, le-of-eq}
-use native.Mathlib.Decide.{decLt}
+use mathlib.Core.Logic.{_⊎_, ⊎-elim}
+use native.Mathlib.Nat.{mul-suc, suc-mul, eq-or-lt-of-le, le-of-eq}
 use native.Mathlib.Omega.{arith}
 use Rattle.row_starts.proofs.Rule.{start-next}
-use Rattle.scratch.specs.Scratch.{triangle, needed, scratchCells}
-
--- Cases on two numbers.
-pub lt-or-ge : (a b : ℕ) → (a < b) ⊎ (b ≤ a)
-lt-or-ge a b = by-dec (decLt a b)
-  where
-    by-dec : Dec (a < b) → (a < b) ⊎ (b ≤ a)
-    by-dec (yes h) = inl h
-    by-dec (no h) = inr (omega arith)
-
-pub eq-or-ne : (a b : ℕ) → (a ≡ b) ⊎ (a ≡ b → ⊥)
-eq-or-ne a b = ⊎-elim (λ l. inr (omega arith)) (λ g. ⊎-elim (λ l. inr (omega arith)) (λ h. inl (omega arith)) (lt-or-ge b a)) (lt-or-ge a b)
+use Rattle.scratch.specs.Scratch.{scratchCells}
+use Rattle.scratch.proofs.Numbers.{lt-or-ge, product-bound}
+use Rattle.pairs.specs.Pairs.{triangle, needed}
 
 pub triangle-square : (i : ℕ) → i * i ≡ 2 * triangle i + i
 unfolding triangle
@@ -36,10 +26,6 @@ triangle-product (suc i) = start-next i ∙ ap (λ (t : ℕ). t + i) (triangle-p
 
 pub needed-value : (n : ℕ) → scratchCells n ≡ needed n
 needed-value n = ap (λ (t : ℕ). t + 4 * n) (triangle-product n)
-
--- Rows and events are 16-bit numbers.
-pub product-bound : (q m : ℕ) → q ≤ 65535 → m ≤ 65535 → q * m ≤ 4294836225
-product-bound q m h g = mul-le-mul h g
 
 pub triangle-bound : (i : ℕ) → i ≤ 65535 → triangle i ≤ 2147450880
 triangle-bound i h = omega (arith, triangle-square i, product-bound i i h h)

@@ -1,0 +1,5 @@
+pub mod Triangle
+pub mod Cells
+pub mod RowStarts
+pub mod Pairs
+pub mod Works
