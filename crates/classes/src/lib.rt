@@ -1,6 +1,6 @@
 // The classes of a level among the rows at hand: from one class by splits that keep like rows together, until no row is unlike the first of its class.
 ghost use mathlib.Core.Path.{_≡_};
-ghost use mathlib.Core.Bool.{false};
+ghost use mathlib.Core.Bool.{true, false};
 ghost use mathlib.Core.List.{[]};
 ghost use mathlib.Core.Logic.{_⊎_};
 ghost use Prim.Native.Nat.{ℕ, _+_, _*_, _≤_, _<_};
@@ -341,6 +341,38 @@ fn all_readable(n: usize, m: usize, to: usize, cells: &[u16], scratch: &[u16]) -
     true
 }
 
+// Whether `count` cells are below a bound. There is no way out of the loop, so that it runs on many cells at a time.
+fn below(cells: &[u16], from: usize, count: usize, bound: usize) -> bool
+    requires { ⌜ from + count ≤ length (now cells) ⌝ }
+    ensures { λ r. ⌜ (r ≡ true → (i : ℕ) → i < count → getD (now (cells .entry)) (from + i) 0 < bound) ⌝ }
+{
+    let mut most = 0;
+    let mut i = 0;
+    while i < count {
+        let x = cells[from + i];
+        i += 1;
+        if most < x {
+            most = x;
+        }
+    }
+    rules::wide(most) < bound
+}
+
+// The same of all rows at hand. Mostly all cells of the table are rows and all values places at hand, which is soon seen.
+fn at_hand(n: usize, m: usize, to: usize, cells: &[u16], scratch: &[u16]) -> bool
+    requires { ⌜ Sizes n m to (now cells) (now scratch) ⌝ }
+    ensures { λ r. ⌜ (let s = now (scratch .entry) in Tested r ((i : ℕ) → i < to → Reads n m to (now (cells .entry)) s (rowIn n (front n s) i))) ⌝ }
+{
+    if below(cells, 0, n * m, n) {
+        if below(scratch, 2 * n, n, to) {
+            if below(scratch, 3 * n, to, n) {
+                return true;
+            }
+        }
+    }
+    all_readable(n, m, to, cells, scratch)
+}
+
 // The classes of a level among the rows at hand: the leader of each place, from 4 * n on. Where the rows at hand cannot be read it changes nothing.
 pub fn settle(
     top: bool,
@@ -357,7 +389,7 @@ pub fn settle(
     if !sized(n, m, to, cells, scratch) {
         return;
     }
-    if !all_readable(n, m, to, cells, scratch) {
+    if !at_hand(n, m, to, cells, scratch) {
         return;
     }
     if to == 0 {
