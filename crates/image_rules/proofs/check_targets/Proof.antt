@@ -1,8 +1,8 @@
 use mathlib.Core.Path.{sym}
 use borrow.Author.Tests.{lt-ltb, le-ltb}
 use borrow.Author.Needs.{needs}
-use Rattle.image_writer.proofs.check_targets.Statement.{statement}
-use Rattle.image_writer.proofs.check_targets.Tie as tie
+use Rattle.image_rules.proofs.check_targets.Statement.{statement}
+use Rattle.image_rules.proofs.check_targets.Tie as tie
 
 returns : tie.Need-returns
 returns c =

@@ -3,11 +3,11 @@ use Prim.Native.Nat.{_*_, _≤_}
 use native.Mathlib.Nat.{mul-le-mul}
 use Rattle.rules.specs.Rules.{tableOf}
 use Rattle.rules.proofs.First.{table-shape, table-refused, table-then}
-use Rattle.image_writer.specs.Write.{formChecks}
+use Rattle.image_rules.specs.Checks.{formChecks}
 use native.Mathlib.Omega.{arith}
 use borrow.Author.Needs.{needs}
-use Rattle.image_writer.proofs.check_image.Statement.{statement}
-use Rattle.image_writer.proofs.check_image.Tie as tie
+use Rattle.image_rules.proofs.check_image.Statement.{statement}
+use Rattle.image_rules.proofs.check_image.Tie as tie
 
 check-targets-requires : tie.Need-check-targets-requires
 check-targets-requires c κs =

@@ -8,8 +8,8 @@ use Rattle.steps.specs.Steps.{stepOf}
 use Rattle.tables.proofs.Lists.{tabulate-position}
 use Rattle.images.specs.Image.{far}
 use native.Mathlib.Omega.{arith}
-use Rattle.image_writer.proofs.first_far.Statement.{statement}
-use Rattle.image_writer.proofs.first_far.Tie as tie
+use Rattle.image_rules.proofs.first_far.Statement.{statement}
+use Rattle.image_rules.proofs.first_far.Tie as tie
 
 abbrev Inv-loop : tie.InvT-loop
 Inv-loop events cells i₀ i = (i ≤ length cells) × ((j : ℕ) → j < i → far (stepOf (j / events) (getD cells j 0)) ≡ false)
