@@ -17,9 +17,9 @@ use Rattle.images.specs.Image as Image
 use Rattle.images.specs.Image.{numberAt}
 use Rattle.images.specs.declared.Form.the-variants.{Radio}
 use Rattle.images.proofs.Numbers.{Bytes, drop-bytes}
-use Rattle.image_sections.specs.Sections.{numberSection}
-use Rattle.image_sections.specs.declared.Section.the-variants.{Got}
-use Rattle.image_sections.proofs.Sections.{Number, number-got}
+use Rattle.image_numbers.specs.Numbers.{numberSection}
+use Rattle.image_numbers.specs.declared.Section.the-variants.{Got}
+use Rattle.image_numbers.proofs.Numbers.{Number, number-got}
 use Rattle.image_sections.specs.declared.Read.{Read}
 use Rattle.image_sections.specs.declared.Read.the-variants as read
 use Rattle.image_reader.specs.Read.{cellsAs, marksIn}

@@ -11,7 +11,8 @@ use Rattle.rules.specs.declared.Verdict.{Verdict}
 use Rattle.rules.specs.declared.Verdict.the-variants.{Fine, Refused}
 use Rattle.images.specs.Image.{numberAt, imageLength, tableAs}
 use Rattle.images.specs.declared.Form.the-variants.{Radio}
-use Rattle.image_sections.specs.Read.{cutRule, anyRows, readOf}
+use Rattle.image_numbers.specs.Numbers.{cutRule}
+use Rattle.image_sections.specs.Read.{anyRows, readOf}
 use Rattle.image_sections.specs.declared.Read.{Read}
 use Rattle.image_sections.specs.declared.Read.the-variants as read
 use Rattle.packs.specs.Pack.{listOf, cellsNeeded, marksNeeded, countRule}

@@ -137,8 +137,8 @@ pub fn read_pack(pack: &[u8], list: &mut [u16], cells: &mut [u16], marks: &mut [
         × (now (cells .exit) ≡ leftIn found cellsOf given)
         × (now (marks .exit) ≡ leftIn found marksOf bytes)) ⌝ }
 {
-    let head = image_sections::number(pack, 0);
-    let image_sections::Section::Got(count, _) = head else {
+    let head = image_numbers::number(pack, 0);
+    let image_numbers::Section::Got(count, _) = head else {
         return Unpacked::Refused(8, pack.len());
     };
     if rules::beyond(16, count) {

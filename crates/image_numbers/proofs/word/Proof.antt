@@ -3,8 +3,8 @@ use Prim.Native.Nat.{ℕ, _+_, _*_}
 use native.Mathlib.Nat.{add-zero}
 use lib.ListN.{getD}
 use borrow.Author.Needs.{needs}
-use Rattle.image_sections.proofs.word.Statement.{statement}
-use Rattle.image_sections.proofs.word.Tie as tie
+use Rattle.image_numbers.proofs.word.Statement.{statement}
+use Rattle.image_numbers.proofs.word.Tie as tie
 
 returns : tie.Need-returns
 returns c =

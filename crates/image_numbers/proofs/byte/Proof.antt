@@ -3,8 +3,8 @@ use Prim.Native.Nat.{_+_}
 use native.Mathlib.Omega.{arith}
 use lib.ListN.{List·getD-eq-default}
 use borrow.Author.Needs.{needs}
-use Rattle.image_sections.proofs.byte.Statement.{statement}
-use Rattle.image_sections.proofs.byte.Tie as tie
+use Rattle.image_numbers.proofs.byte.Statement.{statement}
+use Rattle.image_numbers.proofs.byte.Tie as tie
 
 returns : tie.Need-returns
 returns c =

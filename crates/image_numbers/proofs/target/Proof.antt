@@ -9,8 +9,8 @@ use Rattle.steps.specs.Steps.{stepIn, landing}
 use Rattle.images.specs.Image.{targetAt}
 use Rattle.images.specs.declared.Form.{Form}
 use borrow.Author.Needs.{needs}
-use Rattle.image_sections.proofs.target.Statement.{statement}
-use Rattle.image_sections.proofs.target.Tie as tie
+use Rattle.image_numbers.proofs.target.Statement.{statement}
+use Rattle.image_numbers.proofs.target.Tie as tie
 
 returns : tie.Need-returns
 returns c =

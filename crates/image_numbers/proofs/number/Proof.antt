@@ -2,10 +2,10 @@ use Prim.Native.Nat.{_+_}
 use native.Mathlib.Omega.{arith}
 use borrow.Author.Tests.{lt-ltb, le-ltb}
 use lib.ListN.{length}
-use Rattle.image_sections.specs.Sections.{numberSection}
+use Rattle.image_numbers.specs.Numbers.{numberSection}
 use borrow.Author.Needs.{needs}
-use Rattle.image_sections.proofs.number.Statement.{statement}
-use Rattle.image_sections.proofs.number.Tie as tie
+use Rattle.image_numbers.proofs.number.Statement.{statement}
+use Rattle.image_numbers.proofs.number.Tie as tie
 
 returns : tie.Need-returns
 unfolding numberSection
