@@ -1,13 +1,11 @@
 // What the sections of an image say, in both forms: each in order is opened into its value and the place after it, or gives its refusal; nothing is lent.
 ghost use mathlib.Core.Path.{_≡_};
-ghost use mathlib.Core.Bool.{false};
 ghost use Prim.Native.Nat.{_+_, _*_, _≤_, _<_};
 ghost use lib.Dec.{leb};
 ghost use lib.ListN.{length};
 ghost use Rattle.tables.specs.Lists.{position};
-ghost use Rattle.rules.specs.Rules.{winch};
 ghost use Rattle.images.specs.Image.{width, cellsAt};
-ghost use Rattle.image_sections.specs.Read.{anyRows, atMost, readOf};
+ghost use Rattle.image_sections.specs.Read.{atMost};
 ghost use Rattle.image_sections.specs.Sections.{marksSection, targetsSection, startSection, refusalOf, sectionsRead};
 use image_numbers::Section;
 use images::Form;
@@ -154,13 +152,4 @@ pub fn judge(alone: bool, form: Form, limits: rules::Limits, small: u16, image: 
         }
     }
     Read::Table(rows, events, start)
-}
-
-// What the image at the front of bytes says, within the winch's limits.
-pub fn open_image(form: Form, image: &[u8]) -> Read
-    ensures { λ r. ⌜ r ≡ readOf false form winch anyRows (now (image .entry)) ⌝ }
-{
-    let limits = rules::winch();
-    let small = limits.rows;
-    judge(false, form, limits, small, image)
 }

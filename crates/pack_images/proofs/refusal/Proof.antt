@@ -1,7 +1,7 @@
 use borrow.Author.Tests.{ne-eqb}
 use borrow.Author.Needs.{needs}
-use Rattle.pack_reader.proofs.refusal.Statement.{statement}
-use Rattle.pack_reader.proofs.refusal.Tie as tie
+use Rattle.pack_images.proofs.refusal.Statement.{statement}
+use Rattle.pack_images.proofs.refusal.Tie as tie
 
 returns-2 : tie.Need-returns-2
 returns-2 c = simp (c .before .before .read .given .1, c .if1 .taken)

@@ -2,11 +2,11 @@ use mathlib.Core.Path.{ap, _∙_}
 use mathlib.Core.Bool.{false}
 use Rattle.rules.specs.Rules.{winch}
 use Rattle.rules.specs.declared.Limits.{Limits}
 use Rattle.image_sections.specs.Read.{atMost, readOf}
 use Rattle.image_sections.proofs.Order.{image-order, no-twelve}
 use borrow.Author.Needs.{needs}
-use Rattle.image_sections.proofs.open_image.Statement.{statement}
-use Rattle.image_sections.proofs.open_image.Tie as tie
+use Rattle.pack_images.proofs.open_image.Statement.{statement}
+use Rattle.pack_images.proofs.open_image.Tie as tie
 
 returns : tie.Need-returns
 returns c =

@@ -18,8 +18,7 @@ use Rattle.image_sections.specs.declared.Read.the-variants as read
 use Rattle.image_reader.proofs.RoundTrip.{form-valid, read-front}
 use Rattle.image_reader.proofs.Accepted.{accepted}
 use Rattle.packs.specs.Pack.{radioImages, Every, Sendable}
-use Rattle.pack_reader.specs.Read.{Found, tables, refused, withTable, placeIn, behind, imagesRead}
-use Rattle.pack_reader.specs.Walk.{tablesOf}
+use Rattle.pack_images.specs.Images.{Found, tables, refused, withTable, placeIn, behind, imagesRead, tablesOf}
 
 -- What the image at the front of bytes says, whatever follows it.
 abbrev pub front : List ℕ → Read
