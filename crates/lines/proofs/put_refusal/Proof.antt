@@ -1,8 +1,8 @@
-use Rattle.text.specs.Text.{refusalLine}
+use Rattle.lines.specs.Lines.{refusalLine}
 use Rattle.text.proofs.Buffer.{puts-then}
 use borrow.Author.Needs.{needs}
-use Rattle.text.proofs.put_refusal.Statement.{statement}
-use Rattle.text.proofs.put_refusal.Tie as tie
+use Rattle.lines.proofs.put_refusal.Statement.{statement}
+use Rattle.lines.proofs.put_refusal.Tie as tie
 
 returns : tie.Need-returns
 unfolding refusalLine

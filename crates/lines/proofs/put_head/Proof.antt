@@ -1,8 +1,8 @@
-use Rattle.text.specs.Text.{headLine}
+use Rattle.lines.specs.Lines.{headLine}
 use Rattle.text.proofs.Buffer.{puts-then}
 use borrow.Author.Needs.{needs}
-use Rattle.text.proofs.put_head.Statement.{statement}
-use Rattle.text.proofs.put_head.Tie as tie
+use Rattle.lines.proofs.put_head.Statement.{statement}
+use Rattle.lines.proofs.put_head.Tie as tie
 
 returns : tie.Need-returns
 unfolding headLine
