@@ -10,7 +10,8 @@ use Rattle.tables.specs.Reduction.{similarBy, level, levels, order, similar, ke
 use Rattle.marks.specs.Marks.{spareSet}
 use Rattle.weights.specs.Weights.{spareBit, counted}
 use Rattle.image_sections.specs.Read.{readOf}
-use Rattle.text.specs.Text.{text, decimalIn, decimal, joined, pairLine, headLine}
+use Rattle.text.specs.Text.{text, decimalIn, decimal, joined}
+use Rattle.lines.specs.Lines.{pairLine, headLine}
 use Rattle.listing.specs.Listing.{targetWord, markWords, rowLine, depthWords, fateWords, recordLine, listing}
 use Rattle.image_text.specs.ImageText.{imageText, inputText}
 use Rattle.desk.specs.Printed.{reductionText, printed}

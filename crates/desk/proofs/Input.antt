@@ -4,7 +4,7 @@ use mathlib.Core.List.{List, _++_}
 use Prim.Native.Nat.{ℕ, _-_, _≤_, _<_}
 use lib.ListN.{length, take, drop}
 use Rattle.tables.specs.Table.{Offset}
-use Rattle.text.specs.Text.{refusalLine}
+use Rattle.lines.specs.Lines.{refusalLine}
 use Rattle.image_text.specs.ImageText.{imageText, maskAt, maskedText}
 use Rattle.image_text.proofs.Front as front
 use Rattle.desk.specs.Printed.{offsetIn, reductionText, printed}

@@ -26,7 +26,8 @@ use Rattle.scratch.specs.Scratch.{scratchCells}
 use Rattle.reduction.specs.Reduce.{verdict, answerBy, Promise}
 use Rattle.reduction.proofs.Fakes.{by-mask as judged-by-mask}
 use Rattle.image_text.specs.ImageText.{textBy, maskedText}
-use Rattle.text.specs.Text.{joined, decimal, text, refusalLine}
+use Rattle.text.specs.Text.{joined, decimal, text}
+use Rattle.lines.specs.Lines.{refusalLine}
 use Rattle.text.proofs.Buffer.{joined-same}
 use Rattle.reducer.specs.Recorded.{recordOf, recordsBy}
 use Rattle.desk.specs.Printed.{reductionText}

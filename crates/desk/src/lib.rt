@@ -69,7 +69,7 @@ fn write_reduction(
     let answer = done.answer;
     let records = done.records;
     match answer {
-        Answer::Refused(number, place) => text::put_refusal(out, 0, number, place),
+        Answer::Refused(number, place) => lines::put_refusal(out, 0, number, place),
         Answer::Reduced(left) => listing::put_listing(
             out,
             0,
@@ -91,7 +91,7 @@ fn write_image_text(offset: Offset, mask: u32, image: &[u8], out: &mut [u8]) -> 
     let mut cells = [0u16; 4096];
     let mut marks = [0u8; 16];
     match image_reader::read_within(rules::winch(), 128, image, &mut cells, &mut marks) {
-        Read::Refused(number, place) => text::put_refusal(out, 0, number, place),
+        Read::Refused(number, place) => lines::put_refusal(out, 0, number, place),
         Read::Table(rows, events, start) => {
             let count = rows * events;
             let bytes = marks::mark_bytes(rows);
@@ -116,7 +116,7 @@ pub fn write_text(input: &[u8], out: &mut [u8]) -> usize
         × (r ≡ min (length t) (length room))) ⌝ }
 {
     if input.len() < 6 {
-        return text::put_refusal(out, 0, 8, 0);
+        return lines::put_refusal(out, 0, 8, 0);
     }
     let offset = offset_of(input[0], input[1]);
     let mask = image_text::mask_of(input[2], input[3], input[4], input[5]);

@@ -4,12 +4,12 @@ use follower::Begun;
 use follower::Outcome;
 use follower::Shown;
 use following::Follower;
+use lines::put_refusal;
 use rules::Offset;
 use rules::Verdict;
 use text::put_byte;
 use text::put_cell;
 use text::put_number;
-use text::put_refusal;
 use text::put_text;
 
 fn put_ready(out: &mut [u8], at: usize, ready: bool) -> usize {

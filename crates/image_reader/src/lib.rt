@@ -32,7 +32,7 @@ fn copy_cells(form: Form, image: &[u8], at: usize, count: usize, events: usize, 
     let width = images::width(form);
     let mut i = 0;
     while i < count {
-        cells[i] = image_sections::target(form, image, (i / events) as u16, at + width * i) as u16;
+        cells[i] = image_numbers::target(form, image, (i / events) as u16, at + width * i) as u16;
         i += 1;
     }
 }

@@ -11,11 +11,12 @@ use Rattle.images.specs.declared.Form.{Form}
 use Rattle.rules.specs.declared.Limits.{Limits}
 use Rattle.rules.specs.declared.Verdict.{Verdict}
 use Rattle.rules.specs.declared.Verdict.the-variants.{Fine, Refused}
-use Rattle.image_sections.specs.declared.Section.{Section}
-use Rattle.image_sections.specs.declared.Section.the-variants as section
+use Rattle.image_numbers.specs.Numbers.{checked, numberSection}
+use Rattle.image_numbers.specs.declared.Section.{Section}
+use Rattle.image_numbers.specs.declared.Section.the-variants as section
 use Rattle.image_sections.specs.declared.Read.{Read}
 use Rattle.image_sections.specs.Read.{anyRows, atMost, answered, readOf}
-use Rattle.image_sections.specs.Sections.{checked, opened, onward, numberSection, marksSection, targetsSection, startSection, sectionsRead}
+use Rattle.image_sections.specs.Sections.{opened, onward, marksSection, targetsSection, startSection, sectionsRead}
 
 onward-opened : (s : Section) (f : ℕ → ℕ → Section) (g : ℕ → ℕ → Read) → onward (opened s f) g ≡ onward s (λ x y. onward (f x y) g)
 onward-opened (section.Got value next) f g = refl

@@ -12,12 +12,9 @@ use Rattle.rules.specs.declared.Verdict.the-variants.{Fine, Refused}
 use Rattle.images.specs.Image.{numberAt, cellsAt, targetsAt, startAt, endAt}
 use Rattle.images.specs.declared.Form.{Form}
 use Rattle.images.specs.declared.Form.the-variants.{Plain}
+use Rattle.image_numbers.specs.Numbers.{cutRule}
 use Rattle.image_sections.specs.declared.Read.{Read}
 use Rattle.image_sections.specs.declared.Read.the-variants as read
-
--- The image ends before the place; place of the refusal: its length.
-abbrev pub cutRule : List ℕ → ℕ → Verdict
-cutRule b end = rule 8 (ltb (length b) end) (length b)
 
 -- A target is no row; place: the first such.
 abbrev pub targetsRule : Form → List ℕ → ℕ → ℕ → ℕ → Verdict

@@ -8,19 +8,14 @@ use Rattle.tables.specs.Table.{markBytes}
 use Rattle.rules.specs.Rules.{rule, judged, rowsRule, eventsRule, rowRule, spareRule}
 use Rattle.rules.specs.declared.Limits.{Limits}
 use Rattle.rules.specs.declared.Verdict.{Verdict}
-use Rattle.rules.specs.declared.Verdict.the-variants.{Fine, Refused}
-use Rattle.images.specs.Image.{width, numberAt}
+use Rattle.images.specs.Image.{width}
 use Rattle.images.specs.declared.Form.{Form}
-use Rattle.image_sections.specs.Read.{cutRule, targetsRule, endChecks, answered}
-use Rattle.image_sections.specs.declared.Section.{Section}
-use Rattle.image_sections.specs.declared.Section.the-variants as section
+use Rattle.image_numbers.specs.Numbers.{cutRule, checked, numberSection}
+use Rattle.image_numbers.specs.declared.Section.{Section}
+use Rattle.image_numbers.specs.declared.Section.the-variants as section
+use Rattle.image_sections.specs.Read.{targetsRule, endChecks, answered}
 use Rattle.image_sections.specs.declared.Read.{Read}
 use Rattle.image_sections.specs.declared.Read.the-variants as read
-
--- What a section gives once the checks before it are made.
-abbrev pub checked : Verdict → Section → Section
-checked Fine s = s
-checked (Refused number place) s = section.Refused number place
 
 -- A section's value and next place go on to what follows; a refusal is the answer.
 abbrev pub opened : Section → (ℕ → ℕ → Section) → Section
@@ -35,9 +30,6 @@ onward (section.Refused number place) f = read.Refused number place
 abbrev pub refusalOf : Section → Read
 refusalOf (section.Refused number place) = read.Refused number place
 refusalOf (section.Got value next) = read.Refused 0 0
-
-unfoldable pub numberSection : List ℕ → ℕ → Section
-numberSection b at = checked (cutRule b (at + 2)) (section.Got (numberAt b at) (at + 2))
 
 unfoldable pub marksSection : Limits → (ℕ → Verdict) → List ℕ → Section
 marksSection L few b =

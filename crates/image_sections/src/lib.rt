@@ -1,21 +1,14 @@
 // What the sections of an image say, in both forms: each in order is opened into its value and the place after it, or gives its refusal; nothing is lent.
 ghost use mathlib.Core.Path.{_≡_};
-ghost use mathlib.Core.Bool.{false};
 ghost use Prim.Native.Nat.{_+_, _*_, _≤_, _<_};
 ghost use lib.Dec.{leb};
-ghost use lib.ListN.{length, getD};
+ghost use lib.ListN.{length};
 ghost use Rattle.tables.specs.Lists.{position};
-ghost use Rattle.rules.specs.Rules.{winch};
-ghost use Rattle.images.specs.Image.{width, numberAt, targetAt, cellsAt};
-ghost use Rattle.image_sections.specs.Read.{anyRows, atMost, readOf};
-ghost use Rattle.image_sections.specs.Sections.{numberSection, marksSection, targetsSection, startSection, refusalOf, sectionsRead};
+ghost use Rattle.images.specs.Image.{width, cellsAt};
+ghost use Rattle.image_sections.specs.Read.{atMost};
+ghost use Rattle.image_sections.specs.Sections.{marksSection, targetsSection, startSection, refusalOf, sectionsRead};
+use image_numbers::Section;
 use images::Form;
-
-// What a section gives: its value and the place after it, or the number and place of the rule that it breaks.
-pub enum Section {
-    Got(usize, usize),
-    Refused(usize, usize),
-}
 
 // The rows, events and start of the table that was read, or the number and place of the first rule broken.
 pub enum Read {
@@ -23,51 +16,11 @@ pub enum Read {
     Refused(usize, usize),
 }
 
-fn wide(x: u8) -> usize
-    ensures { λ r. ⌜ r ≡ x ⌝ }
-{
-    x as usize
-}
-
-// The byte so many behind a place; 0 beyond the image.
-fn byte(image: &[u8], at: usize, more: usize) -> u8
-    ensures { λ r. ⌜ r ≡ getD (now (image .entry)) (at + more) 0 ⌝ }
-{
-    if image.len() <= at {
-        return 0;
-    }
-    if image.len() - at <= more {
-        return 0;
-    }
-    image[at + more]
-}
-
-// The number at a place, 16 bits, low byte first.
-fn word(image: &[u8], at: usize) -> usize
-    ensures { λ r. ⌜ r ≡ numberAt (now (image .entry)) at ⌝ }
-{
-    wide(byte(image, at, 0)) + 256 * wide(byte(image, at, 1))
-}
-
-// The number at a place, and the place after it.
-pub fn number(image: &[u8], at: usize) -> Section
-    ensures { λ r. ⌜ r ≡ numberSection (now (image .entry)) at ⌝ }
-{
-    let n = image.len();
-    if n < 2 {
-        return Section::Refused(8, n);
-    }
-    if n - 2 < at {
-        return Section::Refused(8, n);
-    }
-    Section::Got(word(image, at), at + 2)
-}
-
 // Marks: the row count, then the packed mark bytes.
 fn marks_section(limits: rules::Limits, small: u16, image: &[u8]) -> Section
     ensures { λ r. ⌜ r ≡ marksSection limits (atMost small) (now (image .entry)) ⌝ }
 {
-    let count = number(image, 0);
+    let count = image_numbers::number(image, 0);
     let Section::Got(rows, at) = count else {
         return count;
     };
@@ -90,16 +43,6 @@ fn marks_section(limits: rules::Limits, small: u16, image: &[u8]) -> Section
     Section::Got(rows, end)
 }
 
-// The target of a row that stands at a place.
-pub fn target(form: Form, image: &[u8], row: u16, at: usize) -> usize
-    ensures { λ r. ⌜ r ≡ targetAt form (now (image .entry)) row at ⌝ }
-{
-    match form {
-        Form::Plain => word(image, at),
-        Form::Radio => steps::landing(row, steps::step_in(byte(image, at, 0))),
-    }
-}
-
 // The place of the first target that is no row.
 fn first_outside(
     form: Form,
@@ -115,7 +58,7 @@ fn first_outside(
     let width = images::width(form);
     let mut i = 0;
     while i < count {
-        if rows <= target(form, image, (i / events) as u16, at + width * i) {
+        if rows <= image_numbers::target(form, image, (i / events) as u16, at + width * i) {
             return i;
         }
         i += 1;
@@ -134,7 +77,7 @@ fn targets_section(
     requires { ⌜ 0 < rows ⌝ }
     ensures { λ r. ⌜ r ≡ targetsSection form limits (now (image .entry)) rows place ⌝ }
 {
-    let head = number(image, place);
+    let head = image_numbers::number(image, place);
     let Section::Got(count, at) = head else {
         return head;
     };
@@ -160,14 +103,14 @@ fn targets_section(
 fn start_section(image: &[u8], rows: usize, place: usize) -> Section
     ensures { λ r. ⌜ r ≡ startSection (now (image .entry)) rows place ⌝ }
 {
-    let head = number(image, place);
+    let head = image_numbers::number(image, place);
     let Section::Got(count, at) = head else {
         return head;
     };
     if count != 1 {
         return Section::Refused(9, 0);
     }
-    let only = number(image, at);
+    let only = image_numbers::number(image, at);
     let Section::Got(start, next) = only else {
         return only;
     };
@@ -209,13 +152,4 @@ pub fn judge(alone: bool, form: Form, limits: rules::Limits, small: u16, image: 
         }
     }
     Read::Table(rows, events, start)
-}
-
-// What the image at the front of bytes says, within the winch's limits.
-pub fn open_image(form: Form, image: &[u8]) -> Read
-    ensures { λ r. ⌜ r ≡ readOf false form winch anyRows (now (image .entry)) ⌝ }
-{
-    let limits = rules::winch();
-    let small = limits.rows;
-    judge(false, form, limits, small, image)
 }

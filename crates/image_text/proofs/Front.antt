@@ -11,8 +11,8 @@ use lib.Seq.{take-all, drop-append-le}
 use Rattle.tables.specs.Table.{Table}
 use Rattle.weights.specs.Weights.{spareBit}
 use Rattle.rules.specs.Rules.{rule}
-use Rattle.text.specs.Text.{refusalLine}
-use Rattle.text.proofs.Short.{refusal-short}
+use Rattle.lines.specs.Lines.{refusalLine}
+use Rattle.lines.proofs.Short.{refusal-short}
 use Rattle.image_text.specs.ImageText.{imageText, inputText, textBy, maskedText}
 use Rattle.image_text.proofs.Long.{long-image}
 use Rattle.image_text.proofs.Short.{Inside, image-short}

@@ -16,7 +16,8 @@ use Rattle.rules.specs.declared.Verdict.the-variants.{Fine, Refused}
 use Rattle.rules.proofs.Checks.{unbroken, passed}
 use Rattle.images.specs.Image.{numberAt, cellsAt, targetsAt, startAt, endAt}
 use Rattle.images.specs.declared.Form.the-variants.{Plain}
-use Rattle.image_sections.specs.Read.{atMost, cutRule, targetsRule, readChecks, readOf, imageRead, answered}
+use Rattle.image_numbers.specs.Numbers.{cutRule}
+use Rattle.image_sections.specs.Read.{atMost, targetsRule, readChecks, readOf, imageRead, answered}
 use Rattle.image_sections.specs.declared.Read.the-variants as read
 use Rattle.image_text.specs.ImageText.{textOf, imageText}
 use Rattle.image_text.proofs.Few.{few-targets}

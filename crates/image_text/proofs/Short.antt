@@ -17,9 +17,11 @@ use Rattle.rules.proofs.Checks.{unbroken, passed, all-inside}
 use Rattle.marks.specs.Marks.{spareSet}
 use Rattle.images.specs.Image.{numberAt, targetsAt, startAt, endAt, cellsAt, tableIn}
 use Rattle.images.specs.declared.Form.the-variants.{Plain}
-use Rattle.image_sections.specs.Read.{cutRule, targetsRule, atMost, readChecks, readOf, answered}
+use Rattle.image_numbers.specs.Numbers.{cutRule}
+use Rattle.image_sections.specs.Read.{targetsRule, atMost, readChecks, readOf, answered}
 use Rattle.image_sections.specs.declared.Read.the-variants as read
-use Rattle.text.proofs.Short.{Small, refusal-short}
+use Rattle.text.proofs.Short.{Small}
+use Rattle.lines.proofs.Short.{refusal-short}
 use Rattle.image_text.specs.ImageText.{textOf, imageText}
 use Rattle.image_text.proofs.Few.{whole-rows, few-events, few-targets}
 

@@ -21,7 +21,7 @@ use Rattle.image_sections.specs.declared.Read.{Read}
 use Rattle.image_sections.specs.declared.Read.the-variants as read
 use Rattle.image_reader.specs.Read.{roomed, readBy, cellsIn, marksIn}
 use Rattle.image_reader.proofs.RoundTrip.{read-valid}
-use Rattle.text.specs.Text.{refusalLine}
+use Rattle.lines.specs.Lines.{refusalLine}
 use Rattle.image_text.specs.ImageText.{textOf, imageText}
 
 -- The buffers before.

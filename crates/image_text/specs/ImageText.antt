@@ -12,7 +12,7 @@ use Rattle.images.specs.Image.{numberAt, tableIn}
 use Rattle.image_sections.specs.Read.{atMost, imageRead}
 use Rattle.image_sections.specs.declared.Read.{Read}
 use Rattle.image_sections.specs.declared.Read.the-variants as read
-use Rattle.text.specs.Text.{refusalLine}
+use Rattle.lines.specs.Lines.{refusalLine}
 
 -- The text for an image, as the reader answers it; f gives the text of a table.
 abbrev pub textOf : (Table → List ℕ) → List ℕ → Read → List ℕ

@@ -4,11 +4,11 @@ ghost use mathlib.Core.Bool.{false};
 ghost use Prim.Native.Nat.{ℕ, _+_, _*_, _/_, _≤_, _<_};
 ghost use lib.ListN.{length, getD};
 ghost use Rattle.tables.specs.Lists.{over};
-ghost use Rattle.rules.specs.Rules.{judged, tableOf};
+ghost use Rattle.rules.specs.Rules.{tableOf};
 ghost use Rattle.tables.specs.Table.{markBytes};
 ghost use Rattle.images.specs.Image.{number, width, stepBytes, targetBytes, targets, tooFar, imageOf, imageLength, Fits};
 ghost use Rattle.images.specs.declared.Form.the-variants.{Radio};
-ghost use Rattle.image_writer.specs.Write.{firstFar, imageChecks, formChecks, writtenAs, imageInAs, written, imageIn};
+ghost use Rattle.image_writer.specs.Write.{writtenAs, imageInAs, written, imageIn};
 use images::Form;
 use rules::Verdict;
 use steps::Step;
@@ -100,55 +100,6 @@ fn put_image(
     put_number(out, end + 2, start);
 }
 
-// The place of the first cell whose step is too far; the number of cells if none is.
-fn first_far(events: usize, cells: &[u16]) -> usize
-    requires { ⌜ (0 < events) × (length (now cells) ≤ 65535) ⌝ }
-    ensures { λ r. ⌜ r ≡ firstFar events (now (cells .entry)) ⌝ }
-{
-    let mut i = 0;
-    while i < cells.len() {
-        let Step::Small(_) = steps::step_to((i / events) as u16, cells[i]) else {
-            return i;
-        };
-        i += 1;
-    }
-    i
-}
-
-// What a form asks of the targets.
-fn check_targets(form: Form, events: usize, cells: &[u16]) -> Verdict
-    requires { ⌜ (0 < events) × (length (now cells) ≤ 65535) ⌝ }
-    ensures { λ r. ⌜ r ≡ judged (formChecks form events (now (cells .entry))) ⌝ }
-{
-    match form {
-        Form::Plain => Verdict::Fine,
-        Form::Radio => {
-            let place = first_far(events, cells);
-            if place < cells.len() {
-                return Verdict::Refused(14, place);
-            }
-            Verdict::Fine
-        }
-    }
-}
-
-// Rules 1 to 6, and 14 for a radio image.
-pub fn check_image(
-    form: Form,
-    rows: usize,
-    events: usize,
-    start: usize,
-    cells: &[u16],
-    marks: &[u8],
-) -> Verdict
-    ensures { λ r. ⌜ r ≡ judged (imageChecks form (tableOf rows events start (now (cells .entry)) (now (marks .entry)))) ⌝ }
-{
-    match rules::check_table(rules::winch(), rows, events, start, cells, marks) {
-        Verdict::Refused(number, place) => Verdict::Refused(number, place),
-        Verdict::Fine => check_targets(form, events, cells),
-    }
-}
-
 // Writes the image of a table in a form, and answers its length.
 pub fn write_as(
     form: Form,
@@ -163,7 +114,7 @@ pub fn write_as(
         (r ≡ writtenAs form T (length b))
         × (now (out .exit) ≡ imageInAs form T b)) ⌝ }
 {
-    match check_image(form, rows, events, start, cells, marks) {
+    match image_rules::check_image(form, rows, events, start, cells, marks) {
         Verdict::Refused(number, place) => Written::Refused(number, place),
         Verdict::Fine => {
             let length = images::image_length(form, rows as u16, events as u16);

@@ -6,7 +6,8 @@ use Rattle.records.specs.declared.Depth.{Depth}
 use Rattle.records.specs.declared.Depth.the-variants.{Number, Endless}
 use Rattle.records.specs.declared.Fate.{Fate}
 use Rattle.records.specs.declared.Fate.the-variants.{Kept, Unreached}
-use Rattle.text.specs.Text.{text, decimalIn, decimal, joined, pairLine, headLine}
+use Rattle.text.specs.Text.{text, decimalIn, decimal, joined}
+use Rattle.lines.specs.Lines.{pairLine, headLine}
 use Rattle.listing.specs.Listing.{targetWord, markWords, rowLine, depthWords, fateWords, recordLine, listing}
 
 abbrev row : Fate → Depth → Record

@@ -13,7 +13,8 @@ use Rattle.records.specs.declared.Fate.{Fate}
 use Rattle.records.specs.declared.Fate.the-variants.{Kept, Folded, Unreached}
 use Rattle.text.specs.Text.{text}
 use Rattle.listing.specs.Listing.{targetWord, markWords, rowLine, depthWords, fateWords, recordLine, blank, listing}
-use Rattle.text.proofs.Short.{Small, number-short, joined-short, head-short}
+use Rattle.text.proofs.Short.{Small, number-short, joined-short}
+use Rattle.lines.proofs.Short.{head-short}
 
 mark-short : (mark : ℕ) → length (markWords mark) ≤ 7
 unfolding markWords

@@ -10,7 +10,8 @@ use Rattle.records.specs.declared.Depth.{Depth}
 use Rattle.records.specs.declared.Depth.the-variants.{Number, Endless}
 use Rattle.records.specs.declared.Fate.{Fate}
 use Rattle.records.specs.declared.Fate.the-variants.{Kept, Folded, Unreached}
-use Rattle.text.specs.Text.{text, decimal, joined, headLine}
+use Rattle.text.specs.Text.{text, decimal, joined}
+use Rattle.lines.specs.Lines.{headLine}
 
 -- The target of a row and an event, after a space.
 unfoldable pub targetWord : ℕ → List ℕ → ℕ → ℕ → List ℕ

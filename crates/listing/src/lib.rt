@@ -4,12 +4,12 @@ ghost use mathlib.Core.List.{_++_};
 ghost use lib.ListN.{getD};
 ghost use Rattle.text.specs.Text.{decimal, joined, Puts};
 ghost use Rattle.listing.specs.Listing.{targetWord, markWords, rowLine, depthWords, fateWords, recordLine, blank, listing};
+use lines::put_head;
 use records::Depth;
 use records::Fate;
 use records::Record;
 use text::put_byte;
 use text::put_cell;
-use text::put_head;
 use text::put_text;
 
 // Writes the targets of a row, each after a space.

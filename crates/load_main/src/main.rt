@@ -1,6 +1,7 @@
 // Tables that are drawn from a seed: a small one, and what the generator refuses, with the lent cells and mark bytes afterwards. Then the largest
 // tables, 1,024 rows of 32 events as a chain and drawn. What is printed is the new row count of each, and of its sheet the number of
 // entries, the first one, those of offsets 1,022 and 1,023, and the last.
+use lines::put_refusal;
 use offsets::Listed;
 use printing::put_bytes;
 use printing::put_cells;
@@ -8,7 +9,6 @@ use printing::put_line;
 use reduction::Answer;
 use rules::Offset;
 use rules::Verdict;
-use text::put_refusal;
 
 // Every event counts.
 const ALL: u32 = 4294967295;

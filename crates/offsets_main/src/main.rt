@@ -1,9 +1,9 @@
 // The sheets of document 01's tables to try and of tables with idle events, and the refusals 1 to 7, 13 and 16: the answer, then the lent list and the scratch as they
 // are afterwards. Both are lent with a number in each cell and, but for 7 and 13, longer than named. Lines are put into one buffer.
+use lines::put_refusal;
 use offsets::Listed;
 use printing::put_cells;
 use printing::put_line;
-use text::put_refusal;
 
 fn put_answer(out: &mut [u8], at: usize, answer: Listed) -> usize {
     match answer {

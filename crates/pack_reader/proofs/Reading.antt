@@ -1,5 +1,5 @@
 -- What the reader's last check comes to, and its four promises; parts of lent buffers written to.
-use mathlib.Core.Path.{_≡_, refl, ap, _∙_}
+use mathlib.Core.Path.{_≡_, refl, sym, ap, _∙_}
 use mathlib.Core.Bool.{Bool, true, false, _||_}
 use mathlib.Core.List.{List}
 use Prim.Native.Nat.{ℕ, _*_, _≤_, _<_}
@@ -10,26 +10,28 @@ use lib.ListN.{length, drop}
 use Rattle.automata.proofs.Tests.{or-left, or-right}
 use Rattle.tables.specs.Table.{Table}
 use Rattle.tables.specs.Lists.{over}
-use Rattle.tables.proofs.Over.{rest, withRest, rest-same, rest-over}
+use Rattle.tables.proofs.Over.{rest, withRest, rest-is, rest-same, rest-over}
 use Rattle.rules.specs.Rules.{rule, outside}
 use Rattle.rules.proofs.Checks.{inside}
 use Rattle.images.specs.Image as Image
 use Rattle.images.specs.Image.{numberAt}
 use Rattle.images.specs.declared.Form.the-variants.{Radio}
 use Rattle.images.proofs.Numbers.{Bytes, drop-bytes}
-use Rattle.image_sections.specs.Sections.{numberSection}
-use Rattle.image_sections.specs.declared.Section.the-variants.{Got}
-use Rattle.image_sections.proofs.Sections.{Number, number-got}
+use Rattle.image_numbers.specs.Numbers.{numberSection}
+use Rattle.image_numbers.specs.declared.Section.the-variants.{Got}
+use Rattle.image_numbers.proofs.Numbers.{Number, number-got}
 use Rattle.image_sections.specs.declared.Read.{Read}
 use Rattle.image_sections.specs.declared.Read.the-variants as read
 use Rattle.image_reader.specs.Read.{cellsAs, marksIn}
 use Rattle.packs.specs.Pack.{listOf, cellsOf, marksOf, cellsNeeded, marksNeeded}
-use Rattle.pack_reader.specs.Read.{Found, tables, refused, foundBy, imagesRead, packRead, roomed, unpacked, answerOf, leftIn}
-use Rattle.pack_reader.specs.Walk.{neededBy, tablesOf, partFrom}
-use Rattle.pack_reader.specs.declared.Needs.the-variants as needs
+use Rattle.pack_images.specs.Images.{Found, tables, refused, foundBy, imagesRead, tablesOf}
+use Rattle.pack_images.specs.Judge.{neededBy}
+use Rattle.pack_images.specs.declared.Needs.the-variants as needs
+use Rattle.pack_images.proofs.Walk.{images-hold}
+use Rattle.pack_reader.specs.Read.{packRead, roomed, unpacked, answerOf, leftIn}
+use Rattle.pack_reader.specs.Walk.{partFrom}
 use Rattle.pack_reader.specs.declared.Unpacked.{Unpacked}
 use Rattle.pack_reader.specs.declared.Unpacked.the-variants as answer
-use Rattle.pack_reader.proofs.Walk.{images-hold}
 
 -- ---- parts of lent buffers
 
@@ -103,12 +105,16 @@ pub record Needed (b : List ℕ) (count x y : ℕ) (l : List Table) : Type 0 whe
   pub found : imagesRead (length b) count (drop 2 b) ≡ tables l
 
 module _ {b : List ℕ} {count : ℕ} (k : Counted b count) where
-  pub needed-never : (number place : ℕ) → neededBy (imagesRead (length b) count (drop 2 b)) ≡ needs.Refused number place → packRead b ≡ refused number place
-  needed-never number place e = k .images ∙ needed-refused (imagesRead (length b) count (drop 2 b)) number place e
+  -- The images are lent as the rest of the pack.
+  lent : neededBy (imagesRead (length b) count (drop 2 b)) ≡ neededBy (imagesRead (length b) count (rest b 2))
+  lent = ap (λ (l : List ℕ). neededBy (imagesRead (length b) count l)) (sym (rest-is b 2))
 
-  pub needed : Bytes b → (x y : ℕ) → neededBy (imagesRead (length b) count (drop 2 b)) ≡ needs.Room x y → Needed b count x y (tablesOf (imagesRead (length b) count (drop 2 b)))
+  pub needed-never : (number place : ℕ) → neededBy (imagesRead (length b) count (rest b 2)) ≡ needs.Refused number place → packRead b ≡ refused number place
+  needed-never number place e = k .images ∙ needed-refused (imagesRead (length b) count (drop 2 b)) number place (lent ∙ e)
+
+  pub needed : Bytes b → (x y : ℕ) → neededBy (imagesRead (length b) count (rest b 2)) ≡ needs.Room x y → Needed b count x y (tablesOf (imagesRead (length b) count (drop 2 b)))
   needed bytes x y e =
-      let r = needed-room (imagesRead (length b) count (drop 2 b)) x y e in
+      let r = needed-room (imagesRead (length b) count (drop 2 b)) x y (lent ∙ e) in
       record {
         is = k .images ∙ r .0;
         many = images-hold (length b) count (drop 2 b) (drop-bytes 2 b bytes) _ (r .0) .count;

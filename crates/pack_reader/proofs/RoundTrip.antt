@@ -18,13 +18,15 @@ use Rattle.images.specs.Image.{number, numberAt, radioImage, imageLength, table
 use Rattle.images.specs.declared.Form.the-variants.{Radio}
 use Rattle.images.proofs.Numbers.{Bytes, number-at, number-on, drop-bytes}
 use Rattle.images.proofs.Image.{image-length, image-table}
-use Rattle.image_sections.specs.Read.{cutRule, anyRows}
+use Rattle.image_numbers.specs.Numbers.{cutRule}
+use Rattle.image_sections.specs.Read.{anyRows}
 use Rattle.image_sections.specs.declared.Read.the-variants as read
 use Rattle.image_reader.proofs.RoundTrip.{front-read}
 use Rattle.packs.specs.Pack.{radioImages, pack, countRule, Every, Sendable}
 use Rattle.packs.proofs.Images.{images-bytes}
-use Rattle.pack_reader.specs.Read.{Found, tables, foundBy, withTable, imagesRead, packRead}
-use Rattle.pack_reader.proofs.Walk.{front, images-next, images-end, images-hold, no-tables}
+use Rattle.pack_images.specs.Images.{Found, tables, foundBy, withTable, imagesRead}
+use Rattle.pack_images.proofs.Walk.{front, images-next, images-end, images-hold, no-tables}
+use Rattle.pack_reader.specs.Read.{packRead}
 use Rattle.pack_reader.proofs.Reading.{pack-images}
 
 -- ---- the pack of tables

@@ -24,9 +24,9 @@ use Rattle.packs.specs.Pack.{listOf, cellsOf, marksOf, Sendable}
 use Rattle.packs.proofs.Tables.{list-length, cells-length, marks-length}
 use Rattle.packs.proofs.Images.{sendable-laid}
 use Rattle.packs.proofs.Filling.{Filling, filling-begin, filling-room, filling-next, filling-end}
-use Rattle.pack_reader.specs.Read.{Found, tables, imagesRead}
-use Rattle.pack_reader.specs.Walk.{tablesOf, Fitting}
-use Rattle.pack_reader.proofs.Walk.{front, next-of, front-sendable, front-whole, images-next, images-open, images-hold, with-tables}
+use Rattle.pack_images.specs.Images.{Found, tables, imagesRead, tablesOf}
+use Rattle.pack_images.proofs.Walk.{front, next-of, front-sendable, front-whole, images-next, images-open, images-hold, with-tables}
+use Rattle.pack_reader.specs.Walk.{Fitting}
 
 -- What is found from a place on, with so many images left.
 abbrev pub left : List ℕ → ℕ → ℕ → Found

@@ -11,59 +11,17 @@ ghost use Rattle.images.specs.declared.Form.the-variants.{Radio};
 ghost use Rattle.image_sections.specs.Read.{anyRows};
 ghost use Rattle.image_reader.specs.Read.{readAs};
 ghost use Rattle.packs.specs.Pack.{listOf, cellsOf, marksOf};
-ghost use Rattle.pack_reader.specs.Read.{imagesRead, unpacked, answerOf, leftIn};
-ghost use Rattle.pack_reader.specs.Walk.{refusalIn, neededBy, tablesOf, partFrom, Fitting};
+ghost use Rattle.pack_images.specs.Images.{tablesOf, imagesRead};
+ghost use Rattle.pack_reader.specs.Read.{unpacked, answerOf, leftIn};
+ghost use Rattle.pack_reader.specs.Walk.{partFrom, Fitting};
 use image_sections::Read;
 use images::Form;
+use pack_images::Needs;
 
 // How many tables were read, or the number and place of the first rule broken.
 pub enum Unpacked {
     Tables(usize),
     Refused(usize, usize),
-}
-
-// How many cells and mark bytes the tables of a pack need, or the number and place of the first rule broken.
-enum Needs {
-    Room(usize, usize),
-    Refused(usize, usize),
-}
-
-// The refusal of an image in a pack of so many bytes.
-fn refusal(whole: usize, read: Read) -> Needs
-    ensures { λ r. ⌜ r ≡ refusalIn whole read ⌝ }
-{
-    let Read::Refused(number, place) = read else {
-        return Needs::Refused(0, 0);
-    };
-    if number == 8 {
-        return Needs::Refused(8, whole);
-    }
-    Needs::Refused(number, place)
-}
-
-// Judges the images one after another, and then what is left over.
-fn judge(pack: &[u8], count: usize) -> Needs
-    requires { ⌜ (2 ≤ length (now pack)) × (count ≤ 16) ⌝ }
-    ensures { λ r. ⌜ (let b = now (pack .entry) in r ≡ neededBy (imagesRead (length b) count (drop 2 b))) ⌝ }
-{
-    let mut at = 2;
-    let mut cells = 0;
-    let mut marks = 0;
-    let mut i = 0;
-    while i < count {
-        let read = image_sections::open_image(Form::Radio, &pack[at..]);
-        let Read::Table(rows, events, _) = read else {
-            return refusal(pack.len(), read);
-        };
-        at += images::image_length(Form::Radio, rows as u16, events as u16);
-        cells += rows * events;
-        marks += marks::mark_bytes(rows);
-        i += 1;
-    }
-    if at < pack.len() {
-        return Needs::Refused(10, 0);
-    }
-    Needs::Room(cells, marks)
 }
 
 // Puts rows, events and start of a table into the list, from a place on.
@@ -137,14 +95,14 @@ pub fn read_pack(pack: &[u8], list: &mut [u16], cells: &mut [u16], marks: &mut [
         × (now (cells .exit) ≡ leftIn found cellsOf given)
         × (now (marks .exit) ≡ leftIn found marksOf bytes)) ⌝ }
 {
-    let head = image_sections::number(pack, 0);
-    let image_sections::Section::Got(count, _) = head else {
+    let head = image_numbers::number(pack, 0);
+    let image_numbers::Section::Got(count, _) = head else {
         return Unpacked::Refused(8, pack.len());
     };
     if rules::beyond(16, count) {
         return Unpacked::Refused(15, 0);
     }
-    let needs = judge(pack, count);
+    let needs = pack_images::judge(pack.len(), count, &pack[2..]);
     match needs {
         Needs::Refused(number, place) => Unpacked::Refused(number, place),
         Needs::Room(needed, bytes) => {

@@ -15,8 +15,8 @@ use Rattle.rules.proofs.First.{both-fine, fine-valid, valid-then}
 use Rattle.rules.proofs.Judged.{judged-append}
 use Rattle.images.specs.declared.Form.the-variants.{Radio}
 use Rattle.images.proofs.Numbers.{Bytes, take-bytes, drop-bytes}
-use Rattle.image_writer.specs.Write.{stepsRule, formChecks, imageChecks}
-use Rattle.image_writer.proofs.Writing.{image-fine, fits-fine}
+use Rattle.image_rules.specs.Checks.{stepsRule, formChecks, imageChecks}
+use Rattle.image_rules.proofs.Judged.{image-fine, fits-fine}
 use Rattle.packs.specs.Pack.{tablesIn, listOf, total, cellsNeeded, marksNeeded, Every, Sendable}
 use Rattle.packs.proofs.Tables.{Laid}
 use Rattle.packs.proofs.Images.{sendable-laid}

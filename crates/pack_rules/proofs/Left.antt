@@ -12,7 +12,7 @@ use Rattle.rules.specs.Rules.{andThen, judged, tableOf}
 use Rattle.rules.specs.declared.Verdict.{Verdict}
 use Rattle.rules.specs.declared.Verdict.the-variants.{Fine, Refused}
 use Rattle.images.specs.declared.Form.the-variants.{Radio}
-use Rattle.image_writer.specs.Write.{imageChecks}
+use Rattle.image_rules.specs.Checks.{imageChecks}
 use Rattle.packs.specs.Pack.{tablesIn, cellsNeeded, marksNeeded, radioImages}
 use Rattle.packs.proofs.Tables.{Laid}
 use Rattle.packs.proofs.Threes.{tableAt, total-next, tables-next, tables-none}

@@ -7,7 +7,7 @@ use lib.ListN.{length}
 use Rattle.tables.specs.Table.{Table}
 use Rattle.rules.specs.Rules.{rule, winch, rowsRule, eventsRule, rowRule, roomRule, contentChecks}
 use Rattle.rules.specs.declared.Verdict.{Verdict}
-use Rattle.image_writer.specs.Write.{stepsRule}
+use Rattle.image_rules.specs.Checks.{stepsRule}
 use Rattle.packs.specs.Pack.{tablesIn, cellsNeeded, marksNeeded, packLength, countRule}
 
 -- 1 and 2 of each table in turn.

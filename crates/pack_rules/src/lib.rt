@@ -109,7 +109,7 @@ fn check_tables(list: &[u16], cells: &[u16], marks: &[u8]) -> Verdict
         let table = entry_at(list, at);
         let next_cell = cell + table.cells;
         let next_mark = mark + table.marks;
-        match image_writer::check_image(
+        match image_rules::check_image(
             Form::Radio,
             table.rows,
             table.events,

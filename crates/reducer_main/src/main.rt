@@ -1,5 +1,6 @@
 // Document 01's tables to try and its edges, and tables with idle events, through the reducer with its records. Lines are put
 // into one buffer, each function from a place on.
+use lines::put_refusal;
 use listing::put_listing;
 use printing::put_line;
 use records::Depth;
@@ -9,7 +10,6 @@ use reducer::Outcome;
 use reduction::Answer;
 use rules::Offset;
 use rules::wide;
-use text::put_refusal;
 use text::put_text;
 
 // Which events count: of one event and of two all, the first of two, none.

@@ -3,7 +3,7 @@ use mathlib.Core.Path.{_≡_, ap, _∙_}
 use mathlib.Core.List.{List, _++_}
 use Prim.Native.Nat.{ℕ, _-_, _≤_, _<_}
 use lib.ListN.{length, take, drop}
-use Rattle.text.specs.Text.{refusalLine}
+use Rattle.lines.specs.Lines.{refusalLine}
 use Rattle.image_text.specs.ImageText.{imageText, maskAt, maskedText}
 use Rattle.image_text.proofs.Front as front
 use Rattle.sheet_desk.specs.Printed.{sheetText, printed}

@@ -19,7 +19,8 @@ use Rattle.offsets.specs.Sheet.{entries, verdict, answerBy, Promise}
 use Rattle.offsets.proofs.Room.{by-mask}
 use Rattle.text.proofs.Buffer.{joined-same}
 use Rattle.image_text.specs.ImageText.{textBy, maskedText}
-use Rattle.text.specs.Text.{text, joined, pairLine, headLine, refusalLine}
+use Rattle.text.specs.Text.{text, joined}
+use Rattle.lines.specs.Lines.{pairLine, headLine, refusalLine}
 use Rattle.sheet_desk.specs.Printed.{noneLine, sheetLines, sheetText}
 
 -- The buffers before.

@@ -9,8 +9,10 @@ use Rattle.tables.specs.Reduction.{reduced}
 use Rattle.tables.proofs.Bounds.{rows-most}
 use Rattle.weights.specs.Weights.{counted}
 use Rattle.weights.proofs.Counts.{counted-few}
-use Rattle.text.specs.Text.{text, pairLine}
-use Rattle.text.proofs.Short.{number-short, joined-short, pair-short, head-short}
+use Rattle.text.specs.Text.{text}
+use Rattle.lines.specs.Lines.{pairLine}
+use Rattle.text.proofs.Short.{number-short, joined-short}
+use Rattle.lines.proofs.Short.{pair-short, head-short}
 use Rattle.image_text.specs.ImageText.{maskAt, maskedText}
 use Rattle.image_text.proofs.Short.{Inside}
 use Rattle.image_text.proofs.Front.{input-short, masked-short}

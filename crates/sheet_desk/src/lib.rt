@@ -4,15 +4,16 @@ ghost use Prim.Native.Nat.{_-_, _≤_, _<_, min};
 ghost use lib.ListN.{length, getD};
 ghost use Rattle.tables.specs.Table.{Valid};
 ghost use Rattle.rules.specs.Rules.{tableOf};
-ghost use Rattle.text.specs.Text.{joined, pairLine, filled, Puts};
+ghost use Rattle.text.specs.Text.{joined, filled, Puts};
+ghost use Rattle.lines.specs.Lines.{pairLine};
 ghost use Rattle.image_text.specs.ImageText.{imageText, maskedText};
 ghost use Rattle.sheet_desk.specs.Printed.{noneLine, sheetLines, sheetText, printed};
 use image_sections::Read;
+use lines::put_head;
+use lines::put_pair;
 use offsets::Listed;
 use text::put_byte;
 use text::put_cell;
-use text::put_head;
-use text::put_pair;
 use text::put_text;
 
 // Writes the lines of the first offsets, by a list of their counts.
@@ -81,7 +82,7 @@ fn write_table_text(
         &mut list,
         &mut scratch,
     ) {
-        Listed::Refused(number, place) => text::put_refusal(out, 0, number, place),
+        Listed::Refused(number, place) => lines::put_refusal(out, 0, number, place),
         Listed::Entries(count) => put_sheet(
             out,
             rows,
@@ -100,7 +101,7 @@ fn write_image_text(mask: u32, image: &[u8], out: &mut [u8]) -> usize
     let mut cells = [0u16; 4096];
     let mut marks = [0u8; 16];
     match image_reader::read_within(rules::winch(), 128, image, &mut cells, &mut marks) {
-        Read::Refused(number, place) => text::put_refusal(out, 0, number, place),
+        Read::Refused(number, place) => lines::put_refusal(out, 0, number, place),
         Read::Table(rows, events, start) => {
             let count = rows * events;
             let bytes = marks::mark_bytes(rows);
@@ -124,7 +125,7 @@ pub fn write_sheet_text(input: &[u8], out: &mut [u8]) -> usize
         × (r ≡ min (length t) (length room))) ⌝ }
 {
     if input.len() < 4 {
-        return text::put_refusal(out, 0, 8, 0);
+        return lines::put_refusal(out, 0, 8, 0);
     }
     let mask = image_text::mask_of(input[0], input[1], input[2], input[3]);
     write_image_text(mask, &input[4..], out)

@@ -1,4 +1,3 @@
 pub mod Buffer
 pub mod Decimal
 pub mod Short
-pub mod Example

@@ -1,4 +1,4 @@
--- Text as bytes: words, numbers, lines one after the other, and a lent buffer with text in it.
+-- Text as bytes: words, numbers, texts one after the other, and a lent buffer with text in it.
 use mathlib.Core.Path.{_≡_}
 use mathlib.Core.Bool.{true, false}
 use mathlib.Core.List.{List, [], _∷_, _++_}
@@ -26,18 +26,6 @@ decimal n = decimalIn (suc n) n
 unfoldable pub joined : ℕ → (ℕ → List ℕ) → List ℕ
 joined zero f = []
 joined (suc n) f = joined n f ++ f n
-
--- Two numbers and the line's end.
-unfoldable pub pairLine : ℕ → ℕ → List ℕ
-pairLine first second = decimal first ++ text " " ++ decimal second ++ text "\n"
-
--- The first line of what a program prints for a table: a word, the rows, the events, and how many events count.
-unfoldable pub headLine : List ℕ → ℕ → ℕ → ℕ → List ℕ
-headLine word rows events counted = word ++ decimal rows ++ text " " ++ pairLine events counted
-
--- "A refusal prints only `refused`, its number and its place."
-unfoldable pub refusalLine : ℕ → ℕ → List ℕ
-refusalLine number place = text "refused " ++ pairLine number place
 
 -- A buffer with l in front, as far as there is room, and beyond l what was there.
 unfoldable pub filled : List ℕ → List ℕ → List ℕ

@@ -5,8 +5,9 @@ use borrow.Author.Tests.{lt-ltb, le-ltb}
 use lib.ListN.{length, List·getD-eq-default}
 use Rattle.tables.specs.Table.{markBytes}
 use Rattle.rules.proofs.Judged.{spare-zero}
+use Rattle.image_numbers.proofs.Numbers.{number-got}
 use Rattle.image_sections.specs.Sections.{marksSection}
-use Rattle.image_sections.proofs.Sections.{refuses, number-got}
+use Rattle.image_sections.proofs.Sections.{refuses}
 use borrow.Author.Needs.{needs}
 use Rattle.image_sections.proofs.marks_section.Statement.{statement}
 use Rattle.image_sections.proofs.marks_section.Tie as tie

@@ -5,8 +5,9 @@ use lib.ListN.{length}
 use Rattle.rules.proofs.Checks.{inside}
 use Rattle.images.specs.Image as Image
 use Rattle.images.proofs.Targets.{width-most}
+use Rattle.image_numbers.proofs.Numbers.{number-got}
 use Rattle.image_sections.specs.Sections.{targetsSection}
-use Rattle.image_sections.proofs.Sections.{refuses, number-got}
+use Rattle.image_sections.proofs.Sections.{refuses}
 use native.Mathlib.Omega.{arith}
 use borrow.Author.Needs.{needs}
 use Rattle.image_sections.proofs.targets_section.Statement.{statement}

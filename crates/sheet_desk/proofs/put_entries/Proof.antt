@@ -3,7 +3,8 @@ use mathlib.Core.List.{List}
 use Prim.Native.Nat.{ℕ, _-_, _≤_}
 use native.Mathlib.Omega.{arith}
 use lib.ListN.{length, getD}
-use Rattle.text.specs.Text.{joined, pairLine, Puts}
+use Rattle.text.specs.Text.{joined, Puts}
+use Rattle.lines.specs.Lines.{pairLine}
 use Rattle.text.proofs.Buffer.{puts-as, puts-first, puts-next}
 use borrow.Author.Needs.{needs}
 use Rattle.sheet_desk.proofs.put_entries.Statement.{statement}

@@ -1,4 +1,5 @@
-use Rattle.text.specs.Text.{joined, pairLine}
+use Rattle.text.specs.Text.{joined}
+use Rattle.lines.specs.Lines.{pairLine}
 use lib.ListN.{getD}
 use Rattle.text.proofs.Buffer.{puts-then}
 use Rattle.sheet_desk.specs.Printed.{sheetLines}
