@@ -1,6 +1,6 @@
-//! The generator of request 105 and the reducer, called directly with tables of any
-//! size: what they are asked and lent, what they leave, the own reading, and the
-//! comparison with it.
+//! The generator of request 105 and the reducer in both its ways, called directly with
+//! tables of any size: what they are asked and lent, what they leave, the own reading,
+//! and the comparison with it.
 //!
 //! Document 01: "The caller lends target cells (rows × events), mark bytes (rows /
 //! 8, rounded up), ... and scratch of rows × (rows − 1) / 2 + 4 × rows 16-bit
@@ -8,9 +8,14 @@
 //! ... are written, the named scratch cells are 0, and everything beyond is
 //! untouched." And of every refusal: "every lent buffer ... is unchanged". (No
 //! records are lent here.)
+//!
+//! Request 109: "Offer a second way through the reducer with 12 × rows scratch cells,
+//! smaller from 18 rows up. Its table, records and refusals equal the first way's; 7
+//! uses the new figure there, and these cells end at 0."
 
 use crate::calls::{bytes, filled_bytes, filled_cells, first_other, words, Numbers};
 use crate::damage::Answers;
+use crate::levels::Levels;
 use crate::load::load;
 use crate::product::Product;
 use crate::radio::{answer, lay, Answer, Given};
@@ -19,7 +24,35 @@ use crate::table::{check_mask, check_size, refuse, Mask, Offset, Refusal, Table}
 use std::fmt::{Display, Formatter};
 use std::sync::Mutex;
 
-/// The two functions: the own ones, the product's, or spoiled ones.
+/// The two ways through the reducer.
+#[derive(Clone, Copy, Debug, PartialEq, Eq)]
+pub enum Way {
+    First,
+    Second,
+}
+
+impl Way {
+    pub const BOTH: [Way; 2] = [Way::First, Way::Second];
+
+    /// The scratch cells named for so many rows.
+    pub fn scratch(self, rows: usize) -> usize {
+        match self {
+            Way::First => rows * (rows - 1) / 2 + 4 * rows,
+            Way::Second => 12 * rows,
+        }
+    }
+}
+
+/// What the reducer is asked.
+#[derive(Clone, Debug)]
+pub struct Task {
+    pub way: Way,
+    pub offset: u32,
+    pub mask: Mask,
+    pub given: Numbers,
+}
+
+/// The functions: the own ones, the product's, or spoiled ones.
 pub trait Direct: Sync {
     /// Answers four zeros.
     fn generate(
@@ -34,9 +67,7 @@ pub trait Direct: Sync {
     /// Answers the new row count.
     fn reduce(
         &self,
-        offset: u32,
-        mask: Mask,
-        given: &Numbers,
+        task: &Task,
         cells: &mut [u16],
         marks: &mut [u8],
         scratch: &mut [u16],
@@ -59,12 +90,8 @@ pub struct Lengths {
 
 impl Lengths {
     /// Those named for a table of this size.
-    pub fn named(rows: usize, events: usize) -> Lengths {
-        Lengths {
-            cells: rows * events,
-            marks: rows.div_ceil(8),
-            scratch: rows * (rows - 1) / 2 + 4 * rows,
-        }
+    pub fn named(way: Way, rows: usize, events: usize) -> Lengths {
+        Lengths { cells: rows * events, marks: rows.div_ceil(8), scratch: way.scratch(rows) }
     }
 
     /// 7: "a lent buffer is shorter than named".
@@ -76,25 +103,61 @@ impl Lengths {
     }
 }
 
-/// The own reading. It keeps its last study: a table is asked about at many
-/// offsets, and a study of a large one takes long.
+/// All reductions of one table under one mask.
+pub trait Reductions: Send {
+    fn are_of(&self, table: &Table, mask: Mask) -> bool;
+    fn table_at(&self, offset: Offset) -> Table;
+}
+
+impl Reductions for Study {
+    fn are_of(&self, table: &Table, mask: Mask) -> bool {
+        self.table == *table && self.mask == mask
+    }
+
+    fn table_at(&self, offset: Offset) -> Table {
+        self.reduce(offset).table
+    }
+}
+
+impl Reductions for Levels {
+    fn are_of(&self, table: &Table, mask: Mask) -> bool {
+        self.table == *table && self.mask == mask
+    }
+
+    fn table_at(&self, offset: Offset) -> Table {
+        self.reduced(offset)
+    }
+}
+
+/// The own reading. It keeps its last reductions and the last one of them: a table is
+/// asked about at many offsets and in both ways, and to study a large one takes long.
 #[derive(Default)]
 pub struct Own {
-    last: Mutex<Option<Study>>,
+    last: Mutex<Option<Last>>,
+}
+
+struct Last {
+    reductions: Box<dyn Reductions>,
+    one: Option<(Offset, Table)>,
 }
 
 impl Own {
-    pub fn of(study: Study) -> Own {
-        Own { last: Mutex::new(Some(study)) }
+    /// With these, by the rules of rules.rs or level by level (levels.rs).
+    pub fn of(reductions: impl Reductions + 'static) -> Own {
+        Own { last: Mutex::new(Some(Last { reductions: Box::new(reductions), one: None })) }
     }
 
-    /// The reduced table, by the rules of rules.rs.
+    /// The reduced table, by what is kept or else by the rules of rules.rs.
     pub fn reduced(&self, table: &Table, mask: Mask, offset: Offset) -> Table {
         let mut last = self.last.lock().unwrap();
-        if !last.as_ref().is_some_and(|study| study.table == *table && study.mask == mask) {
-            *last = Some(Study::of(table, mask));
+        if !last.as_ref().is_some_and(|last| last.reductions.are_of(table, mask)) {
+            *last = Some(Last { reductions: Box::new(Study::of(table, mask)), one: None });
         }
-        last.as_ref().unwrap().reduce(offset).table
+        let Last { reductions, one } = last.as_mut().unwrap();
+        match one {
+            Some((known, new)) if *known == offset => new.clone(),
+            _ => one.insert((offset, reductions.table_at(offset))).1.clone(),
+        }
     }
 }
 
@@ -116,33 +179,31 @@ impl Direct for Own {
 
     fn reduce(
         &self,
-        offset: u32,
-        mask: Mask,
-        given: &Numbers,
+        task: &Task,
         cells: &mut [u16],
         marks: &mut [u8],
         scratch: &mut [u16],
     ) -> Answer {
         let lent = Lengths { cells: cells.len(), marks: marks.len(), scratch: scratch.len() };
-        answer(check(given, mask, lent).and_then(|table| {
-            let new = self.reduced(&table, mask, offset_of(offset));
+        answer(check(task, lent).and_then(|table| {
+            let new = self.reduced(&table, task.mask, offset_of(task.offset));
             lay(&[&new], cells, marks)?;
-            scratch[..Lengths::named(table.rows, table.events).scratch].fill(0);
+            scratch[..task.way.scratch(table.rows)].fill(0);
             Ok([0, new.rows, 0, 0])
         }))
     }
 }
 
 /// "Reducer and writer check 1 to 7 in number order", with 16 "straight after 6".
-fn check(given: &Numbers, mask: Mask, lent: Lengths) -> Result<Table, Refusal> {
-    let Numbers { rows, events, start, ref cells, ref marks } = *given;
+fn check(task: &Task, lent: Lengths) -> Result<Table, Refusal> {
+    let Numbers { rows, events, start, ref cells, ref marks } = task.given;
     check_size(rows, events)?;
     let table = Given { rows, events, start, cells, marks };
     table.check_lengths()?;
     table.check_contents()?;
-    check_mask(mask, events)?;
-    lent.check(Lengths::named(rows, events))?;
-    Ok(given.table())
+    check_mask(task.mask, events)?;
+    lent.check(Lengths::named(task.way, rows, events))?;
+    Ok(task.given.table())
 }
 
 /// What lent buffers hold before a call.
@@ -179,7 +240,7 @@ impl Fill {
 #[derive(Clone, Debug)]
 pub enum Asked {
     Generate { seed: u32, rows: usize, events: usize },
-    Reduce { offset: u32, mask: Mask, given: Numbers },
+    Reduce(Task),
 }
 
 /// One call. The lent buffers are new for each call.
@@ -213,9 +274,7 @@ impl Call {
             Asked::Generate { seed, rows, events } => {
                 functions.generate(seed, rows, events, cells, marks)
             }
-            Asked::Reduce { offset, mask, ref given } => {
-                functions.reduce(offset, mask, given, cells, marks, &mut left.scratch)
-            }
+            Asked::Reduce(ref task) => functions.reduce(task, cells, marks, &mut left.scratch),
         };
         left
     }
@@ -227,10 +286,10 @@ impl Display for Call {
             Asked::Generate { seed, rows, events } => {
                 write!(f, "generate, seed {seed}, rows {rows}, events {events}")?
             }
-            Asked::Reduce { offset, mask, given: g } => write!(
+            Asked::Reduce(Task { way, offset, mask, given: g }) => write!(
                 f,
-                "reduce, offset {offset}, mask {mask:b}, rows {}, events {}, start {}, cells {}, \
-                 marks {}",
+                "reduce, {way:?} way, offset {offset}, mask {mask:b}, rows {}, events {}, \
+                 start {}, cells {}, marks {}",
                 g.rows,
                 g.events,
                 g.start,
@@ -281,9 +340,74 @@ pub fn expect(
 /// none, or what is wrong.
 pub type Report<'a> = &'a (dyn Fn(Result<usize, String>) + Sync);
 
+/// Makes a call of the reducer in both ways: each is as by the own functions, and has
+/// an answer that the test takes for right. Where both take the table or both refuse
+/// it, answer, cells and mark bytes are the same in both.
+pub fn both_ways(
+    functions: &dyn Direct,
+    own: &Own,
+    report: Report,
+    call: impl Fn(Way) -> Call,
+    right: impl Fn(Way, Answer) -> bool,
+) {
+    let [first, second] = Way::BOTH.map(|way| {
+        let call = call(way);
+        compare(functions, own, &call).and_then(|left| match right(way, left.answer) {
+            true => Ok(left),
+            false => Err(format!("answered {:?}, not so by the test: {call}", left.answer)),
+        })
+    });
+    if let (Ok(first), Ok(second)) = (&first, &second) {
+        if let Err(what) = alike(first, second) {
+            report(Err(format!("{what}: {}", call(Way::Second))));
+        }
+    }
+    [first, second].into_iter().for_each(|left| report(left.map(|left| left.answer[0])));
+}
+
+/// Whether both ways have done the same. (One may have too little scratch where the
+/// other has enough.)
+fn alike(first: &Left, second: &Left) -> Result<(), &'static str> {
+    if (first.answer[0] == 0) != (second.answer[0] == 0) {
+        return Ok(());
+    }
+    if first.answer != second.answer {
+        return Err("the ways differ in the answer");
+    }
+    if first.cells != second.cells || first.marks != second.marks {
+        return Err("the ways differ in the lent cells or mark bytes");
+    }
+    Ok(())
+}
+
 /// Makes calls of the product, stops at a fault, and shows the answers.
 pub fn on_product(what: &str, calls: impl Fn(&dyn Direct, Report)) {
     let answers = Answers::default();
     calls(&Product, &|answer| answers.count(answer));
     answers.show(what, "taken");
+}
+
+#[cfg(test)]
+mod tests {
+    use super::{alike, Left};
+
+    /// Two ways that differ in anything but the scratch are told apart, unless one alone
+    /// refuses.
+    #[test]
+    fn ways_are_told_apart() {
+        let left = |answer: [usize; 2], cell: u16, mark: u8, scratch: usize| Left {
+            answer: [answer[0], answer[1], 0, 0],
+            cells: vec![1, cell],
+            marks: vec![mark],
+            scratch: vec![0; scratch],
+        };
+        let first = left([0, 2], 1, 3, 9);
+        assert_eq!(alike(&first, &left([0, 2], 1, 3, 24)), Ok(()));
+        assert_eq!(alike(&first, &left([7, 0], 5, 5, 8)), Ok(()));
+        assert!(alike(&first, &left([0, 1], 1, 3, 9)).is_err());
+        assert!(alike(&first, &left([0, 2], 0, 3, 9)).is_err());
+        assert!(alike(&first, &left([0, 2], 1, 1, 9)).is_err());
+        assert!(alike(&left([5, 1], 1, 3, 9), &left([5, 2], 1, 3, 9)).is_err());
+        println!("two ways: 6 pairs told apart or not");
+    }
 }

@@ -1,6 +1,6 @@
 //! An independent reading of document 01 ("Ready tables and their
-//! reduction") and of requests 101, 102, 104 and 105, made to be compared with the
-//! product.
+//! reduction") and of requests 101, 102, 104, 105 and 109, made to be compared with
+//! the product.
 
 pub mod calls;
 pub mod cutter;
@@ -8,6 +8,8 @@ pub mod damage;
 pub mod direct;
 pub mod faulty;
 pub mod judge;
+pub mod large;
+pub mod levels;
 pub mod load;
 pub mod mistaken;
 pub mod parallel;

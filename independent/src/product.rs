@@ -1,9 +1,7 @@
-//! The product, called through its eight C functions.
+//! The product, called through its nine C functions.
 
-use crate::calls::Numbers;
-use crate::direct::Direct;
+use crate::direct::{Direct, Task, Way};
 use crate::radio::{Answer, Functions};
-use crate::table::Mask;
 use std::fmt::Debug;
 use std::sync::{Mutex, MutexGuard};
 
@@ -71,6 +69,24 @@ extern "C" {
         answer: *mut usize,
     );
     fn gelfost_reduce(
+        offset: u32,
+        mask: u32,
+        rows: usize,
+        events: usize,
+        start: usize,
+        cells: *const u16,
+        cells_len: usize,
+        marks: *const u8,
+        marks_len: usize,
+        new_cells: *mut u16,
+        new_cells_len: usize,
+        new_marks: *mut u8,
+        new_marks_len: usize,
+        scratch: *mut u16,
+        scratch_len: usize,
+        answer: *mut usize,
+    );
+    fn gelfost_reduce_few(
         offset: u32,
         mask: u32,
         rows: usize,
@@ -294,13 +310,16 @@ impl Direct for Product {
 
     fn reduce(
         &self,
-        offset: u32,
-        mask: Mask,
-        given: &Numbers,
+        task: &Task,
         cells: &mut [u16],
         marks: &mut [u8],
         scratch: &mut [u16],
     ) -> Answer {
+        let Task { way, offset, mask, ref given } = *task;
+        let function = match way {
+            Way::First => gelfost_reduce,
+            Way::Second => gelfost_reduce_few,
+        };
         let (mut g, mut h) = (Guarded::of(&given.cells), Guarded::of(&given.marks));
         let (mut c, mut m) = (Guarded::of(cells), Guarded::of(marks));
         let mut s = Guarded::of(scratch);
@@ -308,7 +327,7 @@ impl Direct for Product {
         let mut a = Guarded::of(&answer);
         let turn = turn();
         unsafe {
-            gelfost_reduce(
+            function(
                 offset,
                 mask,
                 given.rows,
@@ -337,7 +356,7 @@ impl Direct for Product {
                 s.back(scratch),
                 a.back(&mut answer),
             ],
-            &[&(offset, mask), given, &cells.len(), &marks.len(), &scratch.len()],
+            &[&way, &(offset, mask), given, &cells.len(), &marks.len(), &scratch.len()],
         );
         answer
     }

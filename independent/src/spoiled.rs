@@ -1,20 +1,27 @@
 //! The generator and the direct reducer once more, made to be spoiled. Without a
-//! fault they do what direct.rs does; with one of [`GENERATOR_FAULTS`] or
-//! [`REDUCER_FAULTS`] something else, which the checks of tests/load.rs and
-//! tests/direct.rs must find. The generator is written in another way than that of
-//! load.rs; the reducer folds by the own rules, and is spoiled around them.
+//! fault they do what direct.rs does; with one of [`GENERATOR_FAULTS`],
+//! [`REDUCER_FAULTS`], [`SECOND_WAY_FAULTS`] or [`LARGE_FAULTS`] something else, which
+//! the checks of tests/load.rs, tests/direct.rs and tests/large.rs must find. The
+//! generator is written in another way than that of load.rs. The reducer folds by the
+//! own rules, and is spoiled around them; its second way (`reduce_few`) folds level by
+//! level, and is spoiled there too.
 
-use crate::calls::Numbers;
-use crate::direct::{offset_of, Direct, Own, Report};
+use crate::direct::{offset_of, Direct, Own, Report, Task, Way};
+use crate::levels::{folded, Levels};
 use crate::parallel::Counter;
 use crate::radio::Answer;
-use crate::table::{every_event, Mask, Table};
-use std::sync::OnceLock;
+use crate::rules::{assemble, Length};
+use crate::shapes::renumbered;
+use crate::table::{counted, every_event, Mask, Offset, Table};
+use std::collections::HashMap;
+use std::sync::{Mutex, OnceLock};
 
 /// The functions with the fault of this name.
 pub struct Spoiled {
     fault: &'static str,
     own: Own,
+    /// The last levels of the second way.
+    levels: Mutex<Option<Levels>>,
 }
 
 /// Makes calls without a fault, which find none, and with each of these faults,
@@ -22,7 +29,7 @@ pub struct Spoiled {
 pub fn find(what: &str, faults: &[&'static str], calls: impl Fn(&dyn Direct, Report)) {
     let run = |fault: &'static str| {
         let (tried, found, first) = (Counter::default(), Counter::default(), OnceLock::new());
-        calls(&Spoiled { fault, own: Own::default() }, &|answer| {
+        calls(&Spoiled { fault, own: Own::default(), levels: Mutex::default() }, &|answer| {
             tried.add(1);
             if let Err(what) = answer {
                 found.add(1);
@@ -171,6 +178,62 @@ pub const REDUCER_FAULTS: [&str; 58] = [
     "reduce: the events are answered too",
 ];
 
+/// Found by the checks of tests/direct.rs, which make every call in both ways. Any other
+/// fault of the list above can be one of the second way too.
+pub const SECOND_WAY_FAULTS: [&str; 18] = [
+    "reduce_few: 4 before 3",
+    "reduce_few: 16 before 6",
+    "reduce_few: 7 before 16",
+    "reduce_few: 5 gives the last such cell",
+    "reduce_few: 6 is not judged",
+    "reduce_few: 7 by the first way's figure",
+    "reduce: 7 by the second way's figure",
+    "reduce_few: 7 at the very length of the scratch",
+    "reduce_few: 7 where the scratch is more than named",
+    "reduce_few: 7 not judged for the last scratch cell",
+    "reduce_few: the offset is cut to 16 bits",
+    "reduce_few: the scratch is not cleared",
+    "reduce_few: the scratch is cleared but for its last cell",
+    "reduce_few: as much scratch is cleared as in the first way",
+    "reduce_few: a cell is written beyond the end",
+    "reduce_few: a mark byte is written beyond the end",
+    "reduce_few: marks are set in what was there",
+    "reduce_few: refused with the scratch cleared",
+];
+
+/// Found by the checks of tests/large.rs.
+pub const LARGE_FAULTS: [&str; 20] = [
+    "reduce_few: 7 at the very length of the scratch",
+    "reduce_few: 7 not judged for the last scratch cell",
+    "reduce_few: the scratch is cleared but for its last cell",
+    "reduce_few: a row folds one level too early",
+    "reduce_few: a row folds one level too late",
+    "reduce_few: the last level is left out",
+    "reduce_few: two endless rows fold",
+    "reduce_few: equal rows are kept apart",
+    "reduce_few: the higher of two like rows is kept",
+    "reduce_few: folds into the last such row",
+    "reduce_few: higher events are numbered first",
+    "reduce_few: idle events count in distances",
+    "reduce_few: idle events count in depths",
+    "reduce_few: idle events lead nowhere",
+    // In tables of many rows only.
+    "reduce_few: 1,024 rows are too many",
+    "reduce_few: 255 levels at most",
+    "reduce_few: depths from 512 on are endless",
+    "reduce_few: depths and distances are added in 9 bits",
+    "reduce_few: classes are numbered in 8 bits",
+    "reduce_few: rows are told apart by runs of up to 200 events",
+];
+
+/// How the faults of a way begin.
+fn function(way: Way) -> &'static str {
+    match way {
+        Way::First => "reduce: ",
+        Way::Second => "reduce_few: ",
+    }
+}
+
 /// The sizes of what is asked and lent.
 struct Sizes {
     rows: usize,
@@ -234,11 +297,15 @@ impl Spoiled {
             _ => {
                 // Where 7 is judged too early the rows may be of any number.
                 let below = rows.saturating_sub(1);
-                let mut named = [
-                    rows.saturating_mul(events),
-                    rows.div_ceil(8),
-                    (rows.saturating_mul(below) / 2).saturating_add(rows.saturating_mul(4)),
-                ];
+                let first = (rows.saturating_mul(below) / 2).saturating_add(rows.saturating_mul(4));
+                let second = rows.saturating_mul(12);
+                let scratch = match (function, fault) {
+                    (_, "7 by the first way's figure") => first,
+                    (_, "7 by the second way's figure") => second,
+                    ("reduce_few: ", _) => second,
+                    _ => first,
+                };
+                let mut named = [rows.saturating_mul(events), rows.div_ceil(8), scratch];
                 match fault {
                     "7 at the very length of the cells" => named[0] += 1,
                     "7 at the very length of the scratch" => named[2] += 1,
@@ -246,6 +313,7 @@ impl Spoiled {
                     "7 not judged for the last mark byte" => named[1] -= 1,
                     "7 not judged for the last scratch cell" => named[2] -= 1,
                     "7 where the cells are more than named" if lent[0] > named[0] => return true,
+                    "7 where the scratch is more than named" if lent[2] > named[2] => return true,
                     _ => {}
                 }
                 lent.iter().zip(named).any(|(&lent, named)| lent < named)
@@ -373,18 +441,20 @@ impl Spoiled {
     // The reducer.
 
     /// The place of a broken rule of the given table or the mask.
-    fn broken(&self, sizes: &Sizes, given: &Numbers, mask: Mask, rule: usize) -> Option<usize> {
+    fn broken(&self, sizes: &Sizes, task: &Task, rule: usize) -> Option<usize> {
         let Sizes { rows, events, .. } = *sizes;
+        let Task { mask, ref given, .. } = *task;
+        let fault = self.fault_of(function(task.way));
         match rule {
             3 => {
-                let cut = match self.fault {
-                    "reduce: lengths are cut to 16 bits" => 65_536,
+                let cut = match fault {
+                    "lengths are cut to 16 bits" => 65_536,
                     _ => usize::MAX,
                 };
                 let [cells, marks] = [given.cells.len() % cut, given.marks.len() % cut];
                 let named = [rows.saturating_mul(events), rows.div_ceil(8)];
-                let more_cells = self.has("reduce: more cells than required are taken");
-                let more_marks = self.has("reduce: more mark bytes than required are taken");
+                let more_cells = fault == "more cells than required are taken";
+                let more_marks = fault == "more mark bytes than required are taken";
                 let other = cells < named[0]
                     || marks < named[1]
                     || (cells > named[0] && !more_cells)
@@ -392,45 +462,47 @@ impl Spoiled {
                 other.then_some(0)
             }
             4 => {
-                let one = self.has("reduce: the start may be the row count") as usize;
+                let one = (fault == "the start may be the row count") as usize;
                 (given.start >= rows.saturating_add(one)).then_some(0)
             }
             5 => {
-                let one = self.has("reduce: a target may be the row count") as usize;
+                let one = (fault == "a target may be the row count") as usize;
                 let mut cells = 0..given.cells.len();
                 let broken = |&cell: &usize| given.cells[cell] as usize >= rows.saturating_add(one);
-                match self.fault {
-                    "reduce: 5 gives the last such cell" => cells.rfind(broken),
-                    "reduce: 5 gives the row" => cells.find(broken).map(|cell| cell / events),
-                    "reduce: 5 gives no place" => cells.find(broken).map(|_| 0),
+                match fault {
+                    "5 gives the last such cell" => cells.rfind(broken),
+                    "5 gives the row" => cells.find(broken).map(|cell| cell / events),
+                    "5 gives no place" => cells.find(broken).map(|_| 0),
                     _ => cells.find(broken),
                 }
             }
             6 => {
                 let last = given.marks.last().map_or(0, |&last| u32::from(last));
                 let spare = rows % 8 != 0 && last >= 1 << (rows % 8);
-                (spare && !self.has("reduce: 6 is not judged")).then_some(0)
+                (spare && fault != "6 is not judged").then_some(0)
             }
             16 => {
-                let from = match self.fault {
-                    "reduce: 16 is not judged" => 32,
-                    "reduce: 16 for the highest event too" => events - 1,
+                let from = match fault {
+                    "16 is not judged" => 32,
+                    "16 for the highest event too" => events - 1,
                     _ => events,
                 };
                 let bit = (from..32).find(|&bit| mask >> bit & 1 == 1);
-                if self.has("reduce: 16 gives the bit") {
+                if fault == "16 gives the bit" {
                     bit
                 } else {
                     bit.map(|_| 0)
                 }
             }
-            7 if self.has("reduce: 7 by the new rows") => None,
-            _ => self.size_broken("reduce: ", sizes, rule).then_some(0),
+            7 if fault == "7 by the new rows" => None,
+            _ => self.size_broken(function(task.way), sizes, rule).then_some(0),
         }
     }
 
     /// The reduced table of sound numbers; of others, which a fault takes, none.
-    fn reduced(&self, offset: u32, mask: Mask, given: &Numbers) -> Option<Table> {
+    fn reduced(&self, task: &Task) -> Option<Table> {
+        let Task { way, offset, mask, ref given } = *task;
+        let fault = self.fault_of(function(way));
         let sound = (1..=1024).contains(&given.rows)
             && (1..=32).contains(&given.events)
             && given.cells.len() == given.rows * given.events
@@ -439,52 +511,195 @@ impl Spoiled {
             && given.cells.iter().all(|&target| (target as usize) < given.rows);
         let table = sound.then(|| given.table())?;
         let all = every_event(given.events);
-        let mask = match self.fault {
-            "reduce: every event counts" => all,
-            "reduce: the mask is turned round" => mask.reverse_bits() >> (32 - given.events),
+        let mask = match fault {
+            "every event counts" => all,
+            "the mask is turned round" => mask.reverse_bits() >> (32 - given.events),
             _ => mask & all,
         };
-        let offset = match self.fault {
-            "reduce: the offset is cut to 16 bits" => Some(offset as usize % 65_536),
-            "reduce: no offset is offset 0" => Some(offset_of(offset).unwrap_or(0)),
+        let offset = match fault {
+            "the offset is cut to 16 bits" => Some(offset as usize % 65_536),
+            "no offset is offset 0" => Some(offset_of(offset).unwrap_or(0)),
             _ => offset_of(offset),
         };
-        match self.fault {
-            "reduce: the given table is left" => Some(table),
+        match fault {
+            "the given table is left" => Some(table),
+            _ if way == Way::Second => Some(self.by_levels(&table, mask, offset)),
             _ => Some(self.own.reduced(&table, mask, offset)),
         }
     }
 
     /// Lays the new table in lent buffers that are long enough.
-    fn lay_new(&self, new: &Table, given: &Numbers, cells: &mut [u16], marks: &mut [u8]) {
+    fn lay_new(&self, new: &Table, task: &Task, cells: &mut [u16], marks: &mut [u8]) {
+        let given = &task.given;
+        let fault = self.fault_of(function(task.way));
         let (cells_end, marks_end) = (new.targets.len(), new.rows.div_ceil(8));
         for (cell, &target) in cells.iter_mut().zip(&new.targets) {
             *cell = target as u16;
         }
         let packed = new.packed();
         for (place, byte) in packed.into_iter().enumerate() {
-            marks[place] = match self.fault {
-                "reduce: marks are set in what was there" => marks[place] | byte,
-                "reduce: new marks are the first given ones" => given.marks[place],
+            marks[place] = match fault {
+                "marks are set in what was there" => marks[place] | byte,
+                "new marks are the first given ones" => given.marks[place],
                 _ => byte,
             };
         }
-        match self.fault {
-            "reduce: a cell is written beyond the end" => {
+        match fault {
+            "a cell is written beyond the end" => {
                 cells.iter_mut().skip(cells_end).take(1).for_each(|cell| *cell ^= 1)
             }
-            "reduce: a mark byte is written beyond the end" => {
+            "a mark byte is written beyond the end" => {
                 marks.iter_mut().skip(marks_end).take(1).for_each(|byte| *byte ^= 1)
             }
-            "reduce: cells are cleared up to the given rows" => {
-                cells[cells_end..given.cells.len()].fill(0)
-            }
-            "reduce: mark bytes are cleared up to the given rows" => {
+            "cells are cleared up to the given rows" => cells[cells_end..given.cells.len()].fill(0),
+            "mark bytes are cleared up to the given rows" => {
                 marks[marks_end..given.marks.len()].fill(0)
             }
             _ => {}
         }
     }
+}
+
+// The second way, level by level.
+
+impl Spoiled {
+    fn by_levels(&self, table: &Table, mask: Mask, offset: Offset) -> Table {
+        let mut last = self.levels.lock().unwrap();
+        if !last.as_ref().is_some_and(|levels| levels.table == *table && levels.mask == mask) {
+            *last = Some(self.spoiled_levels(table, mask));
+        }
+        let levels = last.as_ref().unwrap();
+        let with =
+            |similar: &dyn Fn(usize, usize) -> bool| assemble(table, &levels.depth, similar).table;
+        match self.fault_of("reduce_few: ") {
+            "a row folds one level too early" => {
+                with(&|one, other| near(levels, one, other, offset, |level| level + 1))
+            }
+            "a row folds one level too late" => {
+                with(&|one, other| near(levels, one, other, offset, |level| level - 1))
+            }
+            "two endless rows fold" => with(&|one, other| {
+                levels.similar(one, other, offset)
+                    || offset != Some(0) && levels.near(1, one, other)
+            }),
+            "equal rows are kept apart" => with(&|one, other| {
+                let targets = |row: usize| &table.targets[row * table.events..][..table.events];
+                levels.similar(one, other, offset)
+                    && (!levels.near(0, one, other) || targets(one) == targets(other))
+            }),
+            "depths and distances are added in 9 bits" => with(&|one, other| {
+                let depth = levels.depth[one].min(levels.depth[other]);
+                match (offset, levels.distance(one, other), depth) {
+                    (Some(k), Length::Of(distance), Some(Length::Of(depth))) => {
+                        (distance + depth.min(k)) % 512 <= k
+                    }
+                    _ => levels.similar(one, other, offset),
+                }
+            }),
+            "the higher of two like rows is kept" => {
+                let turned: Vec<usize> = (0..table.rows).rev().collect();
+                Levels::of(&renumbered(table, &turned), mask).reduced(offset)
+            }
+            "folds into the last such row" => {
+                let mut folds = levels.folds(offset);
+                let mut kept = Vec::new();
+                for row in levels.order() {
+                    if folds[row] == Some(row) {
+                        kept.push(row);
+                    } else {
+                        let similar = |&&other: &&usize| levels.similar(row, other, offset);
+                        folds[row] = kept.iter().rfind(similar).copied();
+                    }
+                }
+                folded(table, &folds)
+            }
+            "higher events are numbered first" => {
+                turned_events(&folded(&turned_events(table), &levels.folds(offset)))
+            }
+            "" => levels.reduced(offset),
+            // A fault of the levels themselves may leave rows that are not met.
+            _ => folded(table, &levels.folds(offset)),
+        }
+    }
+
+    fn spoiled_levels(&self, table: &Table, mask: Mask) -> Levels {
+        let mut levels = Levels::of(table, mask);
+        let every = || Levels::of(table, every_event(table.events));
+        match self.fault_of("reduce_few: ") {
+            "the last level is left out" if levels.last() > 0 => {
+                levels.classes.pop();
+            }
+            "255 levels at most" => levels.classes.truncate(256),
+            "classes are numbered in 8 bits" => {
+                levels.classes.iter_mut().flatten().for_each(|class| *class %= 256);
+            }
+            "depths from 512 on are endless" => {
+                for depth in levels.depth.iter_mut().flatten() {
+                    if *depth >= Length::Of(512) {
+                        *depth = Length::Endless;
+                    }
+                }
+            }
+            "rows are told apart by runs of up to 200 events" => {
+                levels.classes[0] = told_apart(table, 200);
+            }
+            "idle events count in distances" => levels.classes = every().classes,
+            "idle events count in depths" => levels.depth = every().depth,
+            "idle events lead nowhere" => {
+                let mut other = table.clone();
+                for (cell, target) in other.targets.iter_mut().enumerate() {
+                    if counted(mask, cell % table.events) == 0 {
+                        *target = cell / table.events;
+                    }
+                }
+                levels.classes = Levels::of(&other, mask).classes;
+            }
+            _ => {}
+        }
+        levels
+    }
+}
+
+/// Whether two rows are near at another level than the one that makes them similar. (As
+/// it should be where that one is 0, and with no offset.)
+fn near(
+    levels: &Levels,
+    one: usize,
+    other: usize,
+    offset: Offset,
+    change: impl Fn(usize) -> usize,
+) -> bool {
+    match (offset, levels.depth[one].min(levels.depth[other])) {
+        (Some(k), Some(Length::Of(depth))) if depth < k => {
+            levels.near(change(k - depth), one, other)
+        }
+        _ => levels.similar(one, other, offset),
+    }
+}
+
+/// The table with its events in the turned order.
+fn turned_events(table: &Table) -> Table {
+    let mut other = table.clone();
+    other.targets.chunks_mut(table.events).for_each(|row| row.reverse());
+    other
+}
+
+/// The classes of rows that have the same marks after all runs of up to so many events.
+fn told_apart(table: &Table, events: usize) -> Vec<u16> {
+    let mut classes: Vec<u16> = table.marks.iter().map(|&mark| mark as u16).collect();
+    for _ in 0..events {
+        let mut numbers = HashMap::new();
+        let sign = |row: usize| -> Vec<u16> {
+            let targets = &table.targets[row * table.events..][..table.events];
+            [row].iter().chain(targets).map(|&row| classes[row]).collect()
+        };
+        let number = |row: usize| {
+            let next = numbers.len() as u16;
+            *numbers.entry(sign(row)).or_insert(next)
+        };
+        classes = (0..table.rows).map(number).collect();
+    }
+    classes
 }
 
 /// Puts items at the front, as far as there is room.
@@ -544,45 +759,47 @@ impl Direct for Spoiled {
 
     fn reduce(
         &self,
-        offset: u32,
-        mask: Mask,
-        given: &Numbers,
+        task: &Task,
         cells: &mut [u16],
         marks: &mut [u8],
         scratch: &mut [u16],
     ) -> Answer {
+        let Task { way, ref given, .. } = *task;
+        let fault = self.fault_of(function(way));
         let lent = [cells.len(), marks.len(), scratch.len()];
-        let sizes = self.sizes("reduce: ", given.rows, given.events, &lent);
-        let first = |rule| self.broken(&sizes, given, mask, rule).map(|place| (rule, place));
+        let sizes = self.sizes(function(way), given.rows, given.events, &lent);
+        let first = |rule| self.broken(&sizes, task, rule).map(|place| (rule, place));
         let refusal =
-            self.in_order("reduce: ", &[1, 2, 3, 4, 5, 6, 16, 7]).into_iter().find_map(first);
+            self.in_order(function(way), &[1, 2, 3, 4, 5, 6, 16, 7]).into_iter().find_map(first);
         if let Some((rule, place)) = refusal {
-            if self.has("reduce: refused with the scratch cleared") {
+            if fault == "refused with the scratch cleared" {
                 scratch.fill(0);
             }
-            if rule == 7 && self.has("reduce: 7 with as much as there is room for") {
+            if rule == 7 && fault == "7 with as much as there is room for" {
                 put(&given.cells, cells);
                 put(&given.marks, marks);
             }
             return [rule, place, 0, 0];
         }
 
-        let Some(new) = self.reduced(offset, mask, given) else { return [0; 4] };
-        let named = given.rows * (given.rows - 1) / 2 + 4 * given.rows;
+        let Some(new) = self.reduced(task) else { return [0; 4] };
+        let named = way.scratch(given.rows);
         if cells.len() < new.targets.len() || marks.len() < new.rows.div_ceil(8) {
             return [7, 0, 0, 0];
         }
-        self.lay_new(&new, given, cells, marks);
-        let cleared = match self.fault {
-            "reduce: the scratch is not cleared" => 0,
-            "reduce: the scratch is cleared but for its last cell" => named - 1,
-            "reduce: all the lent scratch is cleared" => scratch.len(),
-            _ => named.min(scratch.len()),
+        self.lay_new(&new, task, cells, marks);
+        let cleared = match fault {
+            "the scratch is not cleared" => 0,
+            "the scratch is cleared but for its last cell" => named - 1,
+            "all the lent scratch is cleared" => scratch.len(),
+            "as much scratch is cleared as in the first way" => Way::First.scratch(given.rows),
+            _ => named,
         };
+        let cleared = cleared.min(scratch.len());
         scratch[..cleared].fill(0);
-        match self.fault {
-            "reduce: the given rows are answered" => [0, given.rows, 0, 0],
-            "reduce: the events are answered too" => [0, new.rows, new.events, 0],
+        match fault {
+            "the given rows are answered" => [0, given.rows, 0, 0],
+            "the events are answered too" => [0, new.rows, new.events, 0],
             _ => [0, new.rows, 0, 0],
         }
     }

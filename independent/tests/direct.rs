@@ -1,4 +1,6 @@
-//! (i) The reducer called directly, with tables of up to 1,024 rows and lent buffers.
+//! (i) The reducer called directly, with tables of up to 1,024 rows and lent buffers, in
+//! both its ways: each call of the first way is made of the second too, with its own
+//! scratch (request 109), and both do the same.
 //! - Small tables under every mask, at every offset and with none: the new cells and
 //!   mark bytes are those of rules.rs, and the row count is the least that cutter.rs
 //!   finds by brute force.
@@ -11,9 +13,10 @@
 use independent::calls::Numbers;
 use independent::cutter::{count_all, table_number, Cutter};
 use independent::direct::{
-    compare, expect, on_product, Asked, Call, Direct, Fill, Lengths, Own, Report,
+    both_ways, on_product, Asked, Call, Direct, Fill, Lengths, Own, Report, Task, Way,
 };
 use independent::judge::all_offsets;
+use independent::levels::Levels;
 use independent::parallel::spread;
 use independent::product::Product;
 use independent::radio::Answer;
@@ -21,14 +24,15 @@ use independent::random::Random;
 use independent::rules::Study;
 use independent::shapes::{mask, offsets_for, table, with_mask, Shape, SHAPES};
 use independent::small::{all_masks, all_tables, reached_tables};
-use independent::spoiled::{find, REDUCER_FAULTS};
+use independent::spoiled::{find, REDUCER_FAULTS, SECOND_WAY_FAULTS};
 use independent::table::{every_event, Mask, Offset, Table};
 
 const TOO_SHORT: Answer = [7, 0, 0, 0];
 
-/// What the reducer is given, and lent.
+/// What the reducer is given, and lent, in one of its ways.
 #[derive(Clone)]
 struct Given {
+    way: Way,
     offset: u32,
     mask: Mask,
     numbers: Numbers,
@@ -37,14 +41,15 @@ struct Given {
 
 impl Given {
     /// A table with what is named for it.
-    fn of(table: &Table, mask: Mask, offset: u32) -> Given {
-        let lent = Lengths::named(table.rows, table.events);
-        Given { offset, mask, numbers: Numbers::of(table), lent }
+    fn of(way: Way, table: &Table, mask: Mask, offset: u32) -> Given {
+        let lent = Lengths::named(way, table.rows, table.events);
+        Given { way, offset, mask, numbers: Numbers::of(table), lent }
     }
 
     fn call(&self, fill: Fill) -> Call {
-        let Given { offset, mask, ref numbers, lent } = *self;
-        Call { asked: Asked::Reduce { offset, mask, given: numbers.clone() }, lent, fill }
+        let Given { way, offset, mask, ref numbers, lent } = *self;
+        let asked = Asked::Reduce(Task { way, offset, mask, given: numbers.clone() });
+        Call { asked, lent, fill }
     }
 
     /// The call with other lengths lent.
@@ -92,8 +97,8 @@ fn cases_of_the_documents() {
     let mut tried = 0;
     for (table, mask, offsets, cells, marks) in cases {
         for &offset in offsets {
-            for fill in Fill::ALL {
-                let call = Given::of(table, mask, offset).call(fill);
+            for (fill, way) in Fill::ALL.into_iter().flat_map(|f| Way::BOTH.map(|way| (f, way))) {
+                let call = Given::of(way, table, mask, offset).call(fill);
                 let rows = cells.len() / table.events;
                 for left in [call.by(&Product), call.by(&Own::default())] {
                     assert_eq!(left.answer, [0, rows, 0, 0], "{call}");
@@ -105,11 +110,12 @@ fn cases_of_the_documents() {
             }
         }
     }
-    println!("product: {tried} calls with the tables of the documents");
+    println!("product: {tried} calls with the tables of the documents, in both ways");
 }
 
 /// "Refused, and on what", the small examples, and the edges: "1,024 rows pass, 1,025
-/// give 1; 32 events pass, 33 give 2; four rows need 22 scratch cells".
+/// give 1; 32 events pass, 33 give 2; four rows need 22 scratch cells". In the second
+/// way, with 12 × rows, they need 48; it is "smaller from 18 rows up".
 fn small_examples(functions: &dyn Direct, report: Report) {
     let numbers = |rows: usize, events: usize, cells: &[u16], marks: &[u8]| Numbers {
         rows,
@@ -118,30 +124,74 @@ fn small_examples(functions: &dyn Direct, report: Report) {
         cells: cells.to_vec(),
         marks: marks.to_vec(),
     };
-    let check = |numbers: Numbers, mask: Mask, lent: Lengths, answer: Answer| {
-        let call = Given { offset: 0, mask, numbers, lent }.call(Fill::Pattern);
-        report(expect(functions, &Own::default(), &call, answer));
+    // The answers of the first way and of the second.
+    let check = |numbers: Numbers, mask: Mask, lent: Lengths, answers: [Answer; 2]| {
+        let given = |way| Given { way, offset: 0, mask, numbers: numbers.clone(), lent };
+        let call = |way| given(way).call(Fill::Pattern);
+        let right = |way: Way, answer| answer == answers[(way == Way::Second) as usize];
+        both_ways(functions, &Own::default(), report, call, right);
     };
+    let both = |rule: usize, value: usize| [[rule, value, 0, 0]; 2];
     let some = Lengths { cells: 99, marks: 9, scratch: 99 };
-    check(numbers(0, 1, &[], &[]), 1, some, [1, 0, 0, 0]);
-    check(numbers(1, 33, &[0; 33], &[0]), 1, some, [2, 0, 0, 0]);
-    check(numbers(2, 2, &[0; 5], &[0]), 1, some, [3, 0, 0, 0]);
-    check(Numbers { start: 2, ..numbers(2, 1, &[0; 2], &[0]) }, 1, some, [4, 0, 0, 0]);
-    check(numbers(2, 1, &[1, 2], &[0]), 1, some, [5, 1, 0, 0]);
-    check(numbers(2, 1, &[0; 2], &[4]), 1, some, [6, 0, 0, 0]);
-    check(numbers(2, 1, &[0; 2], &[0]), 2, some, [16, 0, 0, 0]);
-    let four = |scratch: usize| Lengths { cells: 4, marks: 1, scratch };
-    check(numbers(4, 1, &[0; 4], &[0]), 1, four(21), TOO_SHORT);
-    check(numbers(4, 1, &[0; 4], &[0]), 1, four(22), [0, 1, 0, 0]);
+    check(numbers(0, 1, &[], &[]), 1, some, both(1, 0));
+    check(numbers(1, 33, &[0; 33], &[0]), 1, some, both(2, 0));
+    check(numbers(2, 2, &[0; 5], &[0]), 1, some, both(3, 0));
+    check(Numbers { start: 2, ..numbers(2, 1, &[0; 2], &[0]) }, 1, some, both(4, 0));
+    check(numbers(2, 1, &[1, 2], &[0]), 1, some, both(5, 1));
+    check(numbers(2, 1, &[0; 2], &[4]), 1, some, both(6, 0));
+    check(numbers(2, 1, &[0; 2], &[0]), 2, some, both(16, 0));
+    // Rows, scratch cells, and whether these are enough for each way.
+    for (rows, scratch, enough) in [
+        (4, 21, [false, false]),
+        (4, 22, [true, false]),
+        (4, 47, [true, false]),
+        (4, 48, [true, true]),
+        (16, 183, [false, false]),
+        (16, 184, [true, false]),
+        (16, 191, [true, false]),
+        (16, 192, [true, true]),
+        (17, 203, [false, false]),
+        (17, 204, [true, true]),
+        (18, 215, [false, false]),
+        (18, 216, [false, true]),
+        (18, 224, [false, true]),
+        (18, 225, [true, true]),
+    ] {
+        let lent = Lengths { cells: rows, marks: rows.div_ceil(8), scratch };
+        let answers = enough.map(|enough| if enough { [0, 1, 0, 0] } else { TOO_SHORT });
+        check(numbers(rows, 1, &vec![0; rows], &vec![0; lent.marks]), 1, lent, answers);
+    }
     // 7 and not 1: largest_tables lends enough.
-    check(numbers(1024, 1, &[0; 1024], &[255; 128]), 1, some, TOO_SHORT);
-    check(numbers(1025, 1, &[0; 1025], &[0; 129]), 1, some, [1, 0, 0, 0]);
-    check(numbers(1, 32, &[0; 32], &[1]), Mask::MAX, some, [0, 1, 0, 0]);
+    check(numbers(1024, 1, &[0; 1024], &[255; 128]), 1, some, both(7, 0));
+    check(numbers(1025, 1, &[0; 1025], &[0; 129]), 1, some, both(1, 0));
+    check(numbers(1, 32, &[0; 32], &[1]), Mask::MAX, some, both(0, 1));
+}
+
+/// 1,024 rows need 12,288 scratch cells in the second way and 527,872 in the first: as
+/// many, and one less.
+fn most_scratch(functions: &dyn Direct, report: Report) {
+    let given = Table::new(1, 0, &[0; 1024], &[true; 1024]);
+    let own = Own::of(Levels::of(&given, 1));
+    for (scratch, enough) in [
+        (12_287, [false, false]),
+        (12_288, [false, true]),
+        (527_871, [false, true]),
+        (527_872, [true, true]),
+    ] {
+        let asked = |way| Given::of(way, &given, 1, 0);
+        let call = |way| asked(way).lending(|lent| lent.scratch = scratch, Fill::Pattern);
+        let right = |way: Way, answer| {
+            let enough = enough[(way == Way::Second) as usize];
+            answer == if enough { [0, 1, 0, 0] } else { TOO_SHORT }
+        };
+        both_ways(functions, &own, report, call, right);
+    }
 }
 
 #[test]
 fn small_examples_of_the_documents() {
-    on_product("small examples of refusals and edges", small_examples);
+    on_product("small examples of refusals and edges in both ways", small_examples);
+    on_product("1,024 rows in the least scratch of both ways", most_scratch);
 }
 
 // (b) Small tables against the cutter.
@@ -155,22 +205,21 @@ fn check_small(functions: &dyn Direct, report: Report, given: &Table, mask: Mask
     let fill = |more: usize| Fill::ALL[(number + more) % 3];
     let offsets = all_offsets(given.rows);
     for (place, &offset) in offsets.iter().enumerate() {
-        let call = Given::of(given, mask, told(offset, number)).call(fill(place));
-        report(expect(functions, &own, &call, [0, least[place], 0, 0]));
+        let call = |way| Given::of(way, given, mask, told(offset, number)).call(fill(place));
+        let right = |_, answer| answer == [0, least[place], 0, 0];
+        both_ways(functions, &own, report, call, right);
     }
     let place = number % offsets.len();
-    let asked = Given::of(given, mask, told(offsets[place], number));
-    let longer = asked.lending(
-        |lent| {
-            lent.cells += 1 + number % 5;
-            lent.marks += 1 + number % 2;
-            lent.scratch += 1 + number % 9;
-        },
-        fill(1),
-    );
-    report(expect(functions, &own, &longer, [0, least[place], 0, 0]));
-    let shorter = asked.lending(|lent| *lent = one_short(*lent, number), fill(2));
-    report(expect(functions, &own, &shorter, TOO_SHORT));
+    let asked = |way| Given::of(way, given, mask, told(offsets[place], number));
+    let longer = |lent: &mut Lengths| {
+        lent.cells += 1 + number % 5;
+        lent.marks += 1 + number % 2;
+        lent.scratch += 1 + number % 9;
+    };
+    let call = |way| asked(way).lending(longer, fill(1));
+    both_ways(functions, &own, report, call, |_, answer| answer == [0, least[place], 0, 0]);
+    let call = |way| asked(way).lending(|lent| *lent = one_short(*lent, number), fill(2));
+    both_ways(functions, &own, report, call, |_, answer| answer == TOO_SHORT);
 }
 
 /// One of the lengths one less.
@@ -187,7 +236,7 @@ fn one_short(mut lent: Lengths, which: usize) -> Lengths {
 /// of 4 rows and 2 events in which all rows are reached.
 #[test]
 fn small_tables_against_the_cutter() {
-    on_product("small tables directly, against brute force", |functions, report| {
+    on_product("small tables in both ways, against brute force", |functions, report| {
         for (rows, events) in [(1, 1), (2, 1), (3, 1), (1, 2), (2, 2), (3, 2), (4, 2)] {
             let cutter = Cutter::new(rows, events);
             let offsets = all_offsets(rows);
@@ -218,25 +267,23 @@ fn check_larger(
     let (given, mask) = (study.table.clone(), study.mask);
     let own = Own::of(study);
     for &offset in offsets {
-        let asked = Given::of(&given, mask, told(offset, random.below(6)));
+        let offset = told(offset, random.below(6));
         let more = [(); 3].map(|_| *random.pick(&[0, 0, 1, 50]));
-        let call = asked.lending(
-            |lent| {
-                lent.cells += more[0];
-                lent.marks += more[1];
-                lent.scratch += more[2];
-            },
-            *random.pick(&Fill::ALL),
-        );
-        report(compare(functions, &own, &call).and_then(|left| match left.answer[0] {
-            0 => Ok(0),
-            _ => Err(format!("a sound table is refused: {call}")),
-        }));
+        let longer = |lent: &mut Lengths| {
+            lent.cells += more[0];
+            lent.marks += more[1];
+            lent.scratch += more[2];
+        };
+        let fill = *random.pick(&Fill::ALL);
+        let call = |way| Given::of(way, &given, mask, offset).lending(longer, fill);
+        // A sound table is not refused.
+        both_ways(functions, &own, report, call, |_, answer| answer[0] == 0);
     }
-    let asked = Given::of(&given, mask, told(offsets[0], 0));
     for which in 0..3 {
-        let call = asked.lending(|lent| *lent = one_short(*lent, which), *random.pick(&Fill::ALL));
-        report(expect(functions, &own, &call, TOO_SHORT));
+        let asked = |way| Given::of(way, &given, mask, told(offsets[0], 0));
+        let fill = *random.pick(&Fill::ALL);
+        let call = |way| asked(way).lending(|lent| *lent = one_short(*lent, which), fill);
+        both_ways(functions, &own, report, call, |_, answer| answer == TOO_SHORT);
     }
 }
 
@@ -268,13 +315,15 @@ fn larger_tables(functions: &dyn Direct, report: Report, part: usize) {
 
 #[test]
 fn larger_tables_of_all_shapes() {
-    on_product("larger tables directly, up to 300 rows", |f, report| larger_tables(f, report, 1));
+    on_product("larger tables in both ways, up to 300 rows", |functions, report| {
+        larger_tables(functions, report, 1)
+    });
 }
 
 /// More rows than a program takes, up to the largest table.
 #[test]
 fn largest_tables() {
-    on_product("the largest tables directly", |functions, report| {
+    on_product("the largest tables in both ways", |functions, report| {
         let kinds = [
             (Shape::Chain, 1024, 1),
             (Shape::Falling, 1024, 2),
@@ -306,15 +355,16 @@ fn all_numbers(functions: &dyn Direct, report: Report) {
         let none =
             (16..32).flat_map(|bit| [1 << bit, (1 << bit) + 1, (1 << bit) + 12, u32::MAX << bit]);
         for offset in (0..36).chain(ends).chain(none) {
-            let call = Given::of(&given, mask, offset).call(Fill::ALL[offset as usize % 3]);
-            report(compare(functions, &own, &call).map(|left| left.answer[0]));
+            let fill = Fill::ALL[offset as usize % 3];
+            let call = |way| Given::of(way, &given, mask, offset).call(fill);
+            both_ways(functions, &own, report, call, |_, answer| answer[0] == 0);
         }
     }
 }
 
 #[test]
 fn numbers_told_as_offsets() {
-    on_product("numbers told as offsets", all_numbers);
+    on_product("numbers told as offsets in both ways", all_numbers);
 }
 
 /// Each bit of a mask alone, all from it on and all below it, with each number of
@@ -325,13 +375,10 @@ fn each_mask_bit(functions: &dyn Direct, report: Report, step: usize) {
         let given = table(&mut random, Shape::Falling, 5, events);
         for bit in 0..32 {
             for mask in [1 << bit, Mask::MAX << bit, !(Mask::MAX << bit)] {
-                let call = Given::of(&given, mask, 2).call(Fill::ALL[bit % 3]);
+                let call = |way| Given::of(way, &given, mask, 2).call(Fill::ALL[bit % 3]);
                 let high = mask & !every_event(events) != 0;
-                let checked = compare(functions, &Own::default(), &call);
-                report(checked.and_then(|left| match left.answer[0] {
-                    rule if rule == 16 * high as usize => Ok(rule),
-                    rule => Err(format!("answered {rule}: {call}")),
-                }));
+                let right = |_, answer: Answer| answer[0] == 16 * high as usize;
+                both_ways(functions, &Own::default(), report, call, right);
             }
         }
     }
@@ -339,19 +386,20 @@ fn each_mask_bit(functions: &dyn Direct, report: Report, step: usize) {
 
 #[test]
 fn each_bit_of_a_mask() {
-    on_product("each bit of a mask directly", |f, report| each_mask_bit(f, report, 1));
+    on_product("each bit of a mask in both ways", |f, report| each_mask_bit(f, report, 1));
 }
 
-/// Every mixture of lengths about the named ones, and each alone so long that its low
-/// 16 bits are 0; in every fill.
+/// Every mixture of lengths about the named ones, those of the scratch about the figures
+/// of both ways, and each alone so long that its low 16 bits are 0; in every fill.
 fn lent_lengths(functions: &dyn Direct, report: Report) {
     let mut random = Random::new(343_000);
-    for (rows, events) in [(1, 1), (4, 1), (8, 2), (9, 3), (40, 2)] {
+    for (rows, events) in [(1, 1), (4, 1), (8, 2), (9, 3), (17, 1), (18, 2), (40, 2)] {
         let (given, mask) = with_mask(&mut random, Shape::Falling, rows, events);
         let own = Own::default();
-        let asked = Given::of(&given, mask, rows as u32 / 2);
+        let offset = rows as u32 / 2;
         let new_rows = own.reduced(&given, mask, Some(rows / 2)).rows;
-        let all = asked.lent;
+        let [first, second] = Way::BOTH.map(|way| Lengths::named(way, rows, events));
+        let all = Lengths { scratch: first.scratch.max(second.scratch), ..first };
         let long = 65_536;
         let mut list = vec![
             Lengths { cells: long, ..all },
@@ -361,22 +409,28 @@ fn lent_lengths(functions: &dyn Direct, report: Report) {
         let about = |named: usize| [0, named - 1, named, named + 1, named + 99];
         for cells in about(all.cells) {
             for marks in about(all.marks) {
-                list.extend(about(all.scratch).map(|scratch| Lengths { cells, marks, scratch }));
+                for scratch in [about(first.scratch), about(second.scratch)].concat() {
+                    list.push(Lengths { cells, marks, scratch });
+                }
             }
         }
         for (lent, fill) in list.iter().flat_map(|lent| Fill::ALL.map(|fill| (*lent, fill))) {
-            let short =
-                lent.cells < all.cells || lent.marks < all.marks || lent.scratch < all.scratch;
-            let answer = if short { TOO_SHORT } else { [0, new_rows, 0, 0] };
-            let call = asked.lending(|other| *other = lent, fill);
-            report(expect(functions, &own, &call, answer));
+            let right = |way: Way, answer| {
+                let short = lent.cells < all.cells
+                    || lent.marks < all.marks
+                    || lent.scratch < way.scratch(rows);
+                answer == if short { TOO_SHORT } else { [0, new_rows, 0, 0] }
+            };
+            let asked = |way| Given::of(way, &given, mask, offset);
+            let call = |way| asked(way).lending(|other| *other = lent, fill);
+            both_ways(functions, &own, report, call, right);
         }
     }
 }
 
 #[test]
 fn lent_buffers_of_every_length() {
-    on_product("lent buffers of every length directly", lent_lengths);
+    on_product("lent buffers of every length in both ways", lent_lengths);
 }
 
 // (e) Refusals.
@@ -389,7 +443,7 @@ const ORDER: [usize; 8] = [1, 2, 3, 4, 5, 6, 16, 7];
 type Wrong = (usize, fn(&mut Given) -> Option<usize>);
 
 /// Done to one table, those farther down come first: so they find the right numbers.
-const WRONG: [Wrong; 46] = [
+const WRONG: [Wrong; 47] = [
     (1, |g| set(&mut g.numbers.rows, 0)),
     (1, |g| set(&mut g.numbers.rows, 1025)),
     (1, |g| add(&mut g.numbers.rows, 1 << 16)),
@@ -439,8 +493,14 @@ const WRONG: [Wrong; 46] = [
     (7, |g| set(&mut g.lent.cells, 0)),
     (7, |g| set(&mut g.lent.marks, 0)),
     (7, |g| set(&mut g.lent.scratch, 0)),
-    (7, |g| set(&mut g.lent.scratch, g.numbers.rows * (g.numbers.rows - 1) / 2)),
+    (7, |g| set(&mut g.lent.scratch, g.way.scratch(g.numbers.rows) - 4 * g.numbers.rows)),
     (7, |g| set(&mut g.lent.scratch, 4 * g.numbers.rows - 1)),
+    (7, |g| {
+        // The other way's figure, where it is less.
+        let other = if g.way == Way::First { Way::Second } else { Way::First };
+        let figure = other.scratch(g.numbers.rows);
+        set(&mut g.lent.scratch, figure.min(g.way.scratch(g.numbers.rows) - 1))
+    }),
     (7, |g| set(&mut g.lent, Lengths { cells: 0, marks: 0, scratch: 0 })),
 ];
 
@@ -483,24 +543,28 @@ fn high_bits(given: &mut Given, bits: Mask) -> Option<usize> {
 }
 
 /// A sound call with these things wrong, of a list of [`WRONG`] in its order, not two
-/// of one rule: the first in [`ORDER`] gives the answer.
+/// of one rule: the first in [`ORDER`] gives the answer, in both ways.
 fn with_wrongs(
     functions: &dyn Direct,
     report: Report,
-    sound: &Given,
+    sound: impl Fn(Way) -> Given,
     wrongs: &[usize],
     fill: Fill,
 ) {
-    let mut given = sound.clone();
-    let mut answer = None;
-    for &wrong in wrongs.iter().rev() {
-        let (rule, change) = WRONG[wrong];
-        if let Some(place) = change(&mut given) {
-            answer = Some([rule, place, 0, 0]);
+    let spoilt = |way| {
+        let mut given = sound(way);
+        let mut answer = None;
+        for &wrong in wrongs.iter().rev() {
+            let (rule, change) = WRONG[wrong];
+            if let Some(place) = change(&mut given) {
+                answer = Some([rule, place, 0, 0]);
+            }
         }
-    }
-    if let Some(answer) = answer {
-        report(expect(functions, &Own::default(), &given.call(fill), answer));
+        (given, answer)
+    };
+    if let Some(expected) = spoilt(Way::First).1 {
+        let call = |way| spoilt(way).0.call(fill);
+        both_ways(functions, &Own::default(), report, call, |_, answer| answer == expected);
     }
 }
 
@@ -510,13 +574,14 @@ fn wrong_calls(functions: &dyn Direct, report: Report, size: (usize, usize), tim
     let (rows, events) = size;
     let mut random = Random::new(344_000 + (100 * rows + events) as u64);
     let given = table(&mut random, Shape::Free, rows, events);
-    let sound = Given::of(&given, mask(&mut random, events), random.below(70_000) as u32);
+    let (mask, offset) = (mask(&mut random, events), random.below(70_000) as u32);
+    let sound = |way| Given::of(way, &given, mask, offset);
     for one in 0..WRONG.len() {
         let fill = Fill::ALL[one % 3];
-        with_wrongs(functions, report, &sound, &[one], fill);
+        with_wrongs(functions, report, sound, &[one], fill);
         for other in one + 1..WRONG.len() {
             if WRONG[one].0 != WRONG[other].0 && rows < 200 {
-                with_wrongs(functions, report, &sound, &[one, other], fill);
+                with_wrongs(functions, report, sound, &[one, other], fill);
             }
         }
     }
@@ -526,7 +591,7 @@ fn wrong_calls(functions: &dyn Direct, report: Report, size: (usize, usize), tim
                 .filter(|place| set >> place & 1 == 1)
                 .map(|place| some_wrong(&mut random, ORDER[place]))
                 .collect();
-            with_wrongs(functions, report, &sound, &wrongs, *random.pick(&Fill::ALL));
+            with_wrongs(functions, report, sound, &wrongs, *random.pick(&Fill::ALL));
         }
     }
 }
@@ -542,7 +607,7 @@ fn wrong_arguments() {
     // The list is in the order of the rules.
     let place = |rule: usize| ORDER.iter().position(|&other| other == rule);
     assert!(WRONG.windows(2).all(|two| place(two[0].0) <= place(two[1].0)));
-    on_product("wrong arguments of the reducer", |functions, report| {
+    on_product("wrong arguments of the reducer in both ways", |functions, report| {
         for size in [(1, 1), (2, 2), (3, 1), (8, 2), (9, 3), (20, 32), (130, 2)] {
             wrong_calls(functions, report, size, 4);
         }
@@ -563,7 +628,7 @@ fn faults_are_found() {
             all_offsets(3).into_iter().map(|offset| study.reduce(offset).table.rows).collect();
         tables.push((given, study.mask, least));
     }
-    find("direct reducer", &REDUCER_FAULTS, |functions, report| {
+    let calls = |functions: &dyn Direct, report: Report| {
         for (given, mask, least) in &tables {
             check_small(functions, report, given, *mask, least);
         }
@@ -574,5 +639,7 @@ fn faults_are_found() {
         small_examples(functions, report);
         wrong_calls(functions, report, (9, 3), 3);
         wrong_calls(functions, report, (20, 2), 1);
-    });
+    };
+    find("direct reducer", &REDUCER_FAULTS, calls);
+    find("direct reducer, second way", &SECOND_WAY_FAULTS, calls);
 }

@@ -9,7 +9,7 @@
 
 use independent::calls::Numbers;
 use independent::direct::{
-    compare, expect, on_product, Asked, Call, Direct, Fill, Lengths, Own, Report,
+    both_ways, expect, on_product, Asked, Call, Direct, Fill, Lengths, Own, Report, Task,
 };
 use independent::load::{load, step, Draws};
 use independent::parallel::spread;
@@ -272,32 +272,30 @@ fn wrong_sizes_and_seeds() {
 
 // (d) "Every such table is accepted by the reducer".
 
-/// A table as the functions draw it goes to their reducer under some masks, which
-/// gives what the own rules give. Where a buffer is too short 7 is the answer, so no
-/// other rule is broken.
+/// A table as the functions draw it goes to their reducer under some masks, in both
+/// ways, which give what the own rules give. Where a buffer is too short 7 is the
+/// answer, so no other rule is broken.
 fn check_accepted(functions: &dyn Direct, report: Report, random: &mut Random, size: [usize; 2]) {
     let own = Own::default();
     let drawn = generate(some_seed(random), size, named(size), Fill::Pattern).by(functions);
     let [rows, events] = size;
     let given = Numbers { rows, events, start: 0, cells: drawn.cells, marks: drawn.marks };
-    let all = Lengths::named(rows, events);
     for mask in [shapes::mask(random, events), shapes::mask(random, events)] {
         let offset = *random.pick(&[0, 1, 2, rows as u32 / 2, rows as u32, 65_536]);
-        let reduce = |lent: Lengths| {
-            let asked = Asked::Reduce { offset, mask, given: given.clone() };
-            compare(functions, &own, &Call { asked, lent, fill: Fill::Pattern })
+        let expect = |change: fn(&mut Lengths), rule: usize| {
+            let call = |way| {
+                let mut lent = Lengths::named(way, rows, events);
+                change(&mut lent);
+                let asked = Asked::Reduce(Task { way, offset, mask, given: given.clone() });
+                Call { asked, lent, fill: Fill::Pattern }
+            };
+            both_ways(functions, &own, report, call, |_, answer| answer[0] == rule);
         };
-        let expect = |lent: Lengths, rule: usize| {
-            report(reduce(lent).and_then(|left| match left.answer[0] {
-                number if number == rule => Ok(number),
-                number => Err(format!("{number}, not {rule}: {size:?} {mask:b} {lent:?}")),
-            }));
-        };
-        expect(all, 0);
-        expect(Lengths { cells: all.cells - 1, ..all }, 7);
-        expect(Lengths { marks: all.marks - 1, ..all }, 7);
-        expect(Lengths { scratch: all.scratch - 1, ..all }, 7);
-        expect(Lengths { cells: 0, marks: 0, scratch: 0 }, 7);
+        expect(|_| {}, 0);
+        expect(|lent| lent.cells -= 1, 7);
+        expect(|lent| lent.marks -= 1, 7);
+        expect(|lent| lent.scratch -= 1, 7);
+        expect(|lent| *lent = Lengths { cells: 0, marks: 0, scratch: 0 }, 7);
     }
 }
 
@@ -321,7 +319,7 @@ fn accepted(functions: &dyn Direct, report: Report, part: usize) {
 
 #[test]
 fn every_load_is_accepted_by_the_reducer() {
-    on_product("loads given to the reducer", |f, report| accepted(f, report, 1));
+    on_product("loads given to the reducer in both ways", |f, report| accepted(f, report, 1));
 }
 
 /// The same of the own loads, by the rules alone: [`load`] makes no table that is not

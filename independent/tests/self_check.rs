@@ -4,7 +4,10 @@ use independent::cutter::{
     agree, agree_large, count_all, forms, least_plain, table_number, Cutter,
 };
 use independent::damage::{same, Inputs};
+use independent::direct::offset_of;
 use independent::judge::{all_offsets, depths_by_lengths, fits, judge, read_listing};
+use independent::large::{self, KINDS};
+use independent::levels::Levels;
 use independent::mistaken::{Mistaken, FAULTS, RIGHT};
 use independent::parallel::{spread, Counter};
 use independent::random::Random;
@@ -303,14 +306,17 @@ fn cutter_two_ways() {
 }
 
 /// The heart of the self-test: the row count by the rules is the least row
-/// count that brute force finds, and the table by the rules agrees.
+/// count that brute force finds, and the table by the rules agrees. Level by level
+/// (levels.rs) it is the same table.
 fn rules_against_cutter(cutter: &Cutter, table: &Table, mask: Mask) {
     let study = Study::of(table, mask);
+    let levels = levels_against_rules(&study);
     let offsets = all_offsets(table.rows);
     let least = cutter.least(table, mask, &offsets);
     for (place, &offset) in offsets.iter().enumerate() {
         let reduced = study.reduce(offset);
         assert_eq!(reduced.table.rows, least[place], "{table:?} {mask:b} at {offset:?}");
+        assert_eq!(levels.reduced(offset), reduced.table, "{table:?} {mask:b} at {offset:?}");
         let agrees = agree_large(table, &reduced.table, mask, offset);
         assert!(agrees, "{table:?} {mask:b} at {offset:?}");
     }
@@ -368,6 +374,71 @@ fn rules_against_cutter_on_random_tables() {
         });
         println!("rules against cutter: {} tables of {rows} rows, {events} events", tried.value());
     }
+}
+
+/// Depths, and the distances of all pairs of rows, level by level and by the rules.
+fn levels_against_rules(study: &Study) -> Levels {
+    let Study { table, mask, .. } = study;
+    let levels = Levels::of(table, *mask);
+    assert_eq!(levels.depth, study.depth, "{table:?} {mask:b}");
+    for one in 0..table.rows {
+        for other in 0..table.rows {
+            let distance = study.distance(one, other);
+            assert_eq!(levels.distance(one, other), distance, "{table:?} {mask:b} {one} {other}");
+        }
+    }
+    levels
+}
+
+/// The same table and folds, level by level and by the rules: larger tables of all shapes
+/// of shapes.rs at all offsets and with none; and those of large.rs at theirs and, where
+/// they are not so large, at those up to 30.
+#[test]
+fn levels_on_larger_tables() {
+    let (tried, at) = (Counter::default(), Counter::default());
+    let check = |study: &Study, levels: &Levels, offset: Offset| {
+        let expected = study.reduce(offset);
+        let Study { table, mask, .. } = study;
+        assert_eq!(levels.reduced(offset), expected.table, "{table:?} {mask:b} at {offset:?}");
+        for (row, (fate, into)) in expected.fates.iter().zip(levels.folds(offset)).enumerate() {
+            let same = match *fate {
+                Fate::Kept(_) => into == Some(row),
+                Fate::Folded(other) => into == Some(other),
+                Fate::Unreached => into.is_none(),
+            };
+            assert!(same, "{table:?} {mask:b} at {offset:?}, row {row}");
+        }
+        at.add(1);
+    };
+    spread(150, |piece| {
+        let mut random = Random::new(4_500 + piece as u64);
+        for shape in SHAPES {
+            let (rows, events) = (random.between(1, 40), random.between(1, 4));
+            let (given, mask) = with_mask(&mut random, shape, rows, events);
+            let study = Study::of(&given, mask);
+            let levels = levels_against_rules(&study);
+            all_offsets(rows).into_iter().for_each(|offset| check(&study, &levels, offset));
+            tried.add(1);
+        }
+    });
+    let sizes = [(17, 1), (18, 2), (24, 4), (33, 32), (64, 2), (128, 1), (128, 4), (300, 2)];
+    spread(KINDS.len() * sizes.len(), |piece| {
+        let (kind, (rows, events)) = (KINDS[piece / sizes.len()], sizes[piece % sizes.len()]);
+        let mut random = Random::new(4_700 + piece as u64);
+        let mut masks = large::masks(&mut random, kind, events).to_vec();
+        masks.sort();
+        masks.dedup();
+        for mask in masks {
+            let given = large::table(&mut random, kind, rows, events, mask);
+            let study = Study::of(&given, mask);
+            let levels = levels_against_rules(&study);
+            let mut offsets = large::offsets(&mut random, &levels);
+            offsets.extend(if rows <= 64 { 0..=30 } else { 0..=2 });
+            offsets.into_iter().for_each(|offset| check(&study, &levels, offset_of(offset)));
+            tried.add(1);
+        }
+    });
+    println!("level by level: {} tables, {} with their offsets", tried.value(), at.value());
 }
 
 /// An image read back is the table; the document's own bytes for case A0.
