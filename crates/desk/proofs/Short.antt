@@ -12,7 +12,7 @@ use Rattle.tables.specs.Reduction.{keptAs, foldedInto, unreached, reduced, reco
 use Rattle.tables.proofs.Lengths.{Below}
 use Rattle.tables.proofs.Bounds.{FateWithin, events-same, rows-most, cells-most, record-most}
 use Rattle.records.specs.declared.Record.{Record}
-use Rattle.reducer.specs.Recorded.{depthOf, fateOf, recordOf}
+use Rattle.recording.specs.Recorded.{depthOf, fateOf, recordOf}
 use Rattle.weights.specs.Weights.{counted}
 use Rattle.weights.proofs.Counts.{counted-few}
 use Rattle.image_text.specs.ImageText.{maskAt, maskedText}

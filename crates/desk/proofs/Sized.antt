@@ -29,7 +29,7 @@ use Rattle.image_text.specs.ImageText.{textBy, maskedText}
 use Rattle.text.specs.Text.{joined, decimal, text}
 use Rattle.lines.specs.Lines.{refusalLine}
 use Rattle.text.proofs.Buffer.{joined-same}
-use Rattle.reducer.specs.Recorded.{recordOf, recordsBy}
+use Rattle.recording.specs.Recorded.{recordOf, recordsBy}
 use Rattle.desk.specs.Printed.{reductionText}
 use Rattle.listing.specs.Listing.{targetWord, markWords, rowLine, recordLine, blank, listing}
 

@@ -7,7 +7,7 @@ use Rattle.tables.specs.Table.{Table, Offset, offset, none, weightBy}
 use Rattle.tables.specs.Reduction.{reduced, records}
 use Rattle.weights.specs.Weights.{counted}
 use Rattle.images.specs.Image.{numberAt}
-use Rattle.reducer.specs.Recorded.{recordOf}
+use Rattle.recording.specs.Recorded.{recordOf}
 use Rattle.listing.specs.Listing.{listing}
 use Rattle.image_text.specs.ImageText.{maskAt, maskedText, inputText}
 

@@ -6,7 +6,7 @@ ghost use Rattle.tables.specs.Table.{weightBy};
 ghost use Rattle.tables.specs.Reduction.{records as recordsOf};
 ghost use Rattle.ways.specs.Ways.{needOf};
 ghost use Rattle.reduction.specs.Reduce.{verdict, Promise};
-ghost use Rattle.reducer.specs.Recorded.{recordsBy};
+ghost use Rattle.recording.specs.Recorded.{recordsBy};
 use records::Record;
 use reduction::Answer;
 use ways::Way;

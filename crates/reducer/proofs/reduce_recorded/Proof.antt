@@ -65,7 +65,7 @@ use Rattle.records.specs.declared.Record.{Record}
 use Rattle.records.proofs.Record as T
 use Rattle.records.proofs.Record.Laws as T′
 use Rattle.reduction.specs.Reduce.{verdict, Promise}
-use Rattle.reducer.specs.Recorded.{recordsBy}
+use Rattle.recording.specs.Recorded.{recordsBy}
 use Rattle.reduction.specs.declared.Answer.{Answer}
 use Rattle.reducer.specs.declared.Outcome.{Outcome}
 use Rattle.reducer.proofs.Together.{four, four-then, four-on, four-off, ten, ten-then, ten-on, ten-off}

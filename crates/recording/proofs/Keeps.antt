@@ -20,8 +20,8 @@ use Rattle.reduction.specs.Working.{unlessRefused, workBy, Worked}
 use Rattle.reduction.specs.declared.Done.{Done}
 use Rattle.reduction.proofs.Room.{Roomy, fine-roomy}
 use Rattle.reduction.proofs.Promised.{promised}
-use Rattle.reducer.specs.Recorded.{recordOf, recordsBy}
-use Rattle.reducer.proofs.Told.{all-told}
+use Rattle.recording.specs.Recorded.{recordOf, recordsBy}
+use Rattle.recording.proofs.Told.{all-told}
 
 -- The offset and the table; the lent cells, mark bytes, records and scratch at entry; what the work answers; the cells, mark bytes and scratch after it;
 -- the records after they are written; the scratch after it is cleared.

@@ -12,7 +12,7 @@ use Rattle.records.specs.declared.Record.{Record}
 use Rattle.reduction.specs.declared.Answer.{Answer}
 use Rattle.reduction.specs.Reduce.{verdict, answerBy, Promise}
 use Rattle.reduction.proofs.Room.{same-verdict}
-use Rattle.reducer.specs.Recorded.{recordsBy}
+use Rattle.recording.specs.Recorded.{recordsBy}
 
 -- What a call of a way promises, given the lent cells, mark bytes, records and scratch, its answer, and what stands in them afterwards.
 abbrev Kept : (ℕ → ℕ) → Offset → ℕ → Table → List ℕ → List ℕ → List Record → List ℕ → Answer → List ℕ → List ℕ → List Record → List ℕ → Type 0

@@ -23,7 +23,7 @@ use Rattle.records.specs.declared.Depth.{Depth}
 use Rattle.records.specs.declared.Fate.{Fate}
 use Rattle.records.specs.Records.{depthBy, fateBy, recordAt}
 use Rattle.reduction.specs.Working.{Told}
-use Rattle.reducer.specs.Recorded.{depthOf, fateOf, recordOf}
+use Rattle.recording.specs.Recorded.{depthOf, fateOf, recordOf}
 
 -- The depth by a lead.
 depth-told : (n : ℕ) → n ≤ 1024 → (x : Len) → Below n (oneLess x) → depthBy (lenCell x) ≡ depthOf (oneLess x)

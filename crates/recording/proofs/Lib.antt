@@ -1,0 +1,3 @@
+pub mod Told
+pub mod Keeps
+pub mod Both
