@@ -15,12 +15,11 @@
 extern "C" {
 void gelfost_generate(uint32_t seed, size_t rows, size_t events, uint16_t *cells, size_t cells_len, uint8_t *marks, size_t marks_len,
                       size_t answer[4]);
-void gelfost_reduce(uint32_t offset, uint32_t mask, size_t rows, size_t events, size_t start, const uint16_t *cells, size_t cells_len,
-                    const uint8_t *marks, size_t marks_len, uint16_t *new_cells, size_t new_cells_len, uint8_t *new_marks,
-                    size_t new_marks_len, uint16_t *scratch, size_t scratch_len, size_t answer[4]);
-void gelfost_reduce_few(uint32_t offset, uint32_t mask, size_t rows, size_t events, size_t start, const uint16_t *cells,
-                        size_t cells_len, const uint8_t *marks, size_t marks_len, uint16_t *new_cells, size_t new_cells_len,
-                        uint8_t *new_marks, size_t new_marks_len, uint16_t *scratch, size_t scratch_len, size_t answer[4]);
+// The first way if `second` is 0, else the second (bench/recorded.part).
+void gelfost_reduce_recorded(uint32_t second, uint32_t offset, uint32_t mask, size_t rows, size_t events, size_t start,
+                             const uint16_t *cells, size_t cells_len, const uint8_t *marks, size_t marks_len, uint16_t *new_cells,
+                             size_t new_cells_len, uint8_t *new_marks, size_t new_marks_len, uint16_t *scratch, size_t scratch_len,
+                             size_t answer[4]);
 }
 
 namespace {
@@ -181,14 +180,8 @@ double minimize(const Table &table, size_t &states) {
     return took;
 }
 
-// The two ways through the reducer: the call, and how many scratch cells it needs.
-struct Way {
-    decltype(&gelfost_reduce) call;
-    size_t (*need)(size_t rows);
-};
-
-const Way ways[2] = {{gelfost_reduce, [](size_t rows) { return rows * (rows - 1) / 2 + 4 * rows; }},
-                     {gelfost_reduce_few, [](size_t rows) { return 12 * rows; }}};
+// How many scratch cells each way through the reducer needs.
+size_t needed(uint32_t way, size_t rows) { return way == 0 ? rows * (rows - 1) / 2 + 4 * rows : 12 * rows; }
 
 // The lent buffers, and the reduced table afterwards.
 struct Lent {
@@ -196,17 +189,17 @@ struct Lent {
     std::vector<uint8_t> marks;
     std::vector<uint16_t> scratch;
 
-    Lent(const Table &table, const Way &way) : cells(table.cells.size()), marks(table.marks.size()), scratch(way.need(table.rows)) {}
+    Lent(const Table &table, uint32_t way) : cells(table.cells.size()), marks(table.marks.size()), scratch(needed(way, table.rows)) {}
 };
 
-// Seconds of the whole call, with its checks and the clearing of the scratch; `counted` events count.
-double reduce(const Way &way, const Table &table, size_t counted, uint32_t offset, Lent &lent, size_t &rows) {
+// Seconds of the whole call, with its checks, the records and the clearing of the scratch; `counted` events count.
+double reduce(uint32_t way, const Table &table, size_t counted, uint32_t offset, Lent &lent, size_t &rows) {
     uint32_t mask = counted < 32 ? (uint32_t{1} << counted) - 1 : UINT32_MAX;
     size_t answer[4];
     double took = seconds([&] {
-        way.call(offset, mask, table.rows, table.events, 0, table.cells.data(), table.cells.size(), table.marks.data(),
-                 table.marks.size(), lent.cells.data(), lent.cells.size(), lent.marks.data(), lent.marks.size(), lent.scratch.data(),
-                 lent.scratch.size(), answer);
+        gelfost_reduce_recorded(way, offset, mask, table.rows, table.events, 0, table.cells.data(), table.cells.size(),
+                                table.marks.data(), table.marks.size(), lent.cells.data(), lent.cells.size(), lent.marks.data(),
+                                lent.marks.size(), lent.scratch.data(), lent.scratch.size(), answer);
     });
     if (answer[0]) fail("the reducer refused by rule " + std::to_string(answer[0]));
     rows = answer[1];
@@ -243,12 +236,12 @@ Times time_table(const Table &table, size_t counted, int repeats) {
     Times times;
     for (auto &of_way : times.ours) std::fill(of_way, of_way + 4, 1e9);
     size_t states = 0;
-    Lent lent[2] = {Lent(table, ways[0]), Lent(table, ways[1])};
+    Lent lent[2] = {Lent(table, 0), Lent(table, 1)};
     for (int i = 0; i < repeats; i++) {
         times.theirs = std::min(times.theirs, minimize(table, states));
         for (int k = 0; k < 4; k++) {
-            for (int w = 0; w < 2; w++)
-                times.ours[w][k] = std::min(times.ours[w][k], reduce(ways[w], table, counted, offsets[k], lent[w], times.left[w][k]));
+            for (uint32_t way = 0; way < 2; way++)
+                times.ours[way][k] = std::min(times.ours[way][k], reduce(way, table, counted, offsets[k], lent[way], times.left[way][k]));
             if (times.left[0][k] != times.left[1][k]) fail("the two ways differ in rows");
             if (k == 0 && counted == table.events && times.left[1][0] != states + lost_rows(lent[1], times.left[1][0], table.events))
                 fail("reducer and OpenFst differ in rows");

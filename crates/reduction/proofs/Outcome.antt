@@ -13,15 +13,15 @@ use Rattle.rules.specs.declared.Verdict.{Verdict}
 use Rattle.rules.specs.declared.Verdict.the-variants.{Fine, Refused}
 use Rattle.scratch.specs.Scratch.{workableIn}
 use Rattle.scratch.proofs.Works.{valid-within}
-use Rattle.renumbering.specs.Renumber.{newRows, newCells, newMarks, NewScratch, left}
+use Rattle.renumbering.specs.Renumber.{left}
 use Rattle.renumbering.proofs.Left.{all-room, room-told}
-use Rattle.ways.specs.Ways.{needOf, FoldedBy}
+use Rattle.ways.specs.Ways.{needOf}
 use Rattle.ways.specs.declared.Way.{Way}
 use Rattle.ways.proofs.Needs.{four-regions}
 use Rattle.reduction.specs.declared.Answer.the-variants as answer
 use Rattle.reduction.specs.declared.Done.{Done}
 use Rattle.reduction.specs.Reduce.{verdict}
-use Rattle.reduction.specs.Working.{workBy, Worked}
+use Rattle.reduction.specs.Working.{workBy, Worked, Rewritten}
 use Rattle.reduction.proofs.Room.{Roomy, verdict-valid, fine-roomy, roomy-works}
 use Rattle.reduction.proofs.Worked.{left-reduced, told}
 
@@ -63,15 +63,14 @@ module _ (way : Way) (k : Offset) (mask : ℕ) (T : Table) (bytes : (i : ℕ) �
     pub fine-rows : T .rows ≤ 1024
     fine-rows = roomy .valid .rows-fit
 
-    pub work-fine : (s : List ℕ) → (workableIn need T (length scratch) ≡ true → FoldedBy need mask k T scratch s)
-        → {r used : ℕ} {t c m : List ℕ} → r ≡ newRows T s cells marks → NewScratch T s cells marks t → c ≡ newCells T s cells marks → m ≡ newMarks T s cells marks
-        → used ≡ need (T .rows)
+    pub work-fine : {r used : ℕ} {t c m : List ℕ} → Rewritten need k mask T cells marks scratch r c m t → used ≡ need (T .rows)
         → Left (verdict need mask T (length cells) (length marks) records (length scratch)) (record { answer = answer.Reduced r; rows = T .rows; used = used }) c m t
-    work-fine s folded {r} {used} {t} {c} {m} hr ht hc hm hu =
-        let F = folded (roomy-works roomy) in
+    work-fine {r} {used} {t} {c} {m} w hu =
+        let s = w .between in
+        let F = w .folded (roomy-works roomy) in
         let works = valid-within (λ n. 4 * n) T (length s) (roomy .valid) (omega (arith, F .size, four-regions way (T .rows), roomy .scratch-fits)) in
         let fit = all-room T s cells marks works (roomy .cells-fit) (roomy .marks-fit) in
-        let h = room-told T s cells marks fit hr ht hc hm in
+        let h = room-told T s cells marks fit (w .rows-left) (w .numbered) (w .cells-written) (w .marks-written) in
         let same : left T s ≡ U = left-reduced k mask T (roomy .valid) s (F .folds) in
         subst (λ (u : Verdict). Left u (record { answer = answer.Reduced r; rows = T .rows; used = used }) c m t) (sym e ∙ hv) (
           (λ i. record { answer = answer.Reduced ((h .0 ∙ ap (λ (N : Table). N .rows) same) i); rows = T .rows; used = hu i }),

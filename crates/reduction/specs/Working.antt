@@ -10,7 +10,9 @@ use Rattle.tables.specs.Lengths.{lead, reached}
 use Rattle.tables.specs.Reduction.{fold, number, reduced}
 use Rattle.rules.specs.declared.Verdict.{Verdict}
 use Rattle.rules.specs.declared.Verdict.the-variants.{Fine, Refused}
-use Rattle.scratch.specs.Scratch.{lenCell}
+use Rattle.scratch.specs.Scratch.{lenCell, workableIn}
+use Rattle.ways.specs.Ways.{FoldedBy}
+use Rattle.renumbering.specs.Renumber.{newRows, newCells, newMarks, NewScratch}
 use Rattle.reduction.specs.declared.Done.{Done}
 use Rattle.reduction.specs.Reduce.{answerBy}
 
@@ -34,3 +36,12 @@ pub record Worked (need : ℕ → ℕ) (v : Verdict) (k : Offset) (mask : ℕ) (
   pub size : length t ≡ length s
   pub beyond : (i : ℕ) → need (T .rows) ≤ i → getD t i 0 ≡ getD s i 0
   pub refused : (number place : ℕ) → v ≡ Refused number place → t ≡ s
+
+-- What folding and numbering leave: between them the scratch was such that rows had folded, if the table could be worked on.
+pub record Rewritten (need : ℕ → ℕ) (k : Offset) (mask : ℕ) (T : Table) (cells marks scratch : List ℕ) (r : ℕ) (cells′ marks′ scratch′ : List ℕ) : Type 0 where
+  pub between : List ℕ
+  pub folded : workableIn need T (length scratch) ≡ true → FoldedBy need mask k T scratch between
+  pub rows-left : r ≡ newRows T between cells marks
+  pub numbered : NewScratch T between cells marks scratch′
+  pub cells-written : cells′ ≡ newCells T between cells marks
+  pub marks-written : marks′ ≡ newMarks T between cells marks

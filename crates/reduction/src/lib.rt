@@ -8,7 +8,7 @@ ghost use Rattle.rules.specs.declared.Verdict.the-variants.{Fine};
 ghost use Rattle.tables.specs.Reduction.{reduced};
 ghost use Rattle.scratch.specs.Scratch.{cleared};
 ghost use Rattle.reduction.specs.Reduce.{roomChecks, verdict, Promise};
-ghost use Rattle.reduction.specs.Working.{workBy, Worked};
+ghost use Rattle.reduction.specs.Working.{workBy, Worked, Rewritten};
 use ways::Way;
 
 // The new row count, or the number and place of the first rule broken.
@@ -81,6 +81,46 @@ fn check(
     }
 }
 
+// Folds the rows and writes the table that is left, if the table is valid and there is room; its row count.
+fn rewrite(
+    way: Way,
+    offset: rules::Offset,
+    mask: u32,
+    rows: usize,
+    events: usize,
+    start: usize,
+    cells: &[u16],
+    marks: &[u8],
+    newcells: &mut [u16],
+    newmarks: &mut [u8],
+    scratch: &mut [u16],
+) -> usize
+    ensures { λ r. ⌜ (let T = tableOf rows events start (now (cells .entry)) (now (marks .entry)) in
+        Rewritten (needOf way) (offsetOf offset) mask T (now (newcells .entry)) (now (newmarks .entry)) (now (scratch .entry)) r (now (newcells .exit)) (now (newmarks .exit)) (now (scratch .exit))) ⌝ }
+{
+    ways::fold_rows(
+        way,
+        offset,
+        mask,
+        rows,
+        events,
+        start,
+        cells,
+        marks,
+        scratch,
+    );
+    renumbering::renumber(
+        rows,
+        events,
+        start,
+        cells,
+        marks,
+        scratch,
+        newcells,
+        newmarks,
+    )
+}
+
 // Checks, reduces, and writes the new table; what the records say stands in scratch.
 pub fn work(
     way: Way,
@@ -124,7 +164,7 @@ pub fn work(
             used: 0,
         },
         rules::Verdict::Fine => {
-            ways::fold_rows(
+            let left = rewrite(
                 way,
                 offset,
                 mask,
@@ -133,17 +173,9 @@ pub fn work(
                 start,
                 cells,
                 marks,
-                scratch,
-            );
-            let left = renumbering::renumber(
-                rows,
-                events,
-                start,
-                cells,
-                marks,
-                scratch,
                 newcells,
                 newmarks,
+                scratch,
             );
             Done {
                 answer: Answer::Reduced(left),

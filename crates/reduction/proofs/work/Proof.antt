@@ -5,15 +5,15 @@ use borrow.Author.Needs.{needs}
 use Rattle.reduction.proofs.work.Statement.{statement}
 use Rattle.reduction.proofs.work.Tie as tie
 
-cast-t32 : tie.Need-cast-t32
-cast-t32 c =
-    let a = c .before .before .before .before .before .before .before .before .before .before .before .before .before .before .before .before .before .before .before .before .before .before .args in
-    record { fits = omega (arith, fine-rows (a .way) (offsetOf (a .offset)) (a .mask) (tableOf (a .rows) (a .events) (a .start) (a .cells .now) (a .marks .now)) (λ i. omega (arith, c .before .before .before .before .before .before .before .before .before .before .before .before .before .before .before .before .before .before .before .before .shared-slice-known2 .given i)) (a .newcells .now) (a .newmarks .now) (a .scratch .now) (a .room) (c .before .before .before .before .before .before .before .before .before .before .before .before .before .before .before .before .check .ensures) (c .before .before .before .before .before .before .before .before .before .before .before .before .before .before .enum-told .given .1)) }
+cast-t29 : tie.Need-cast-t29
+cast-t29 c =
+    let a = c .before .before .before .before .before .before .before .before .before .before .before .before .before .before .before .before .before .before .args in
+    record { fits = omega (arith, fine-rows (a .way) (offsetOf (a .offset)) (a .mask) (tableOf (a .rows) (a .events) (a .start) (a .cells .now) (a .marks .now)) (λ i. omega (arith, c .before .before .before .before .before .before .before .before .before .before .before .before .before .before .before .before .shared-slice-known2 .given i)) (a .newcells .now) (a .newmarks .now) (a .scratch .now) (a .room) (c .before .before .before .before .before .before .before .before .before .before .before .before .check .ensures) (c .before .before .before .before .before .before .before .before .before .before .enum-told .given .1)) }
 
 cast-needed : tie.Need-cast-needed
 cast-needed c =
-    let a = c .before .before .before .before .before .before .before .before .before .before .before .before .before .before .before .before .before .before .before .before .before .before .args in
-    record { fits = omega (arith, fine-rows (a .way) (offsetOf (a .offset)) (a .mask) (tableOf (a .rows) (a .events) (a .start) (a .cells .now) (a .marks .now)) (λ i. omega (arith, c .before .before .before .before .before .before .before .before .before .before .before .before .before .before .before .before .before .before .before .before .shared-slice-known2 .given i)) (a .newcells .now) (a .newmarks .now) (a .scratch .now) (a .room) (c .before .before .before .before .before .before .before .before .before .before .before .before .before .before .before .before .check .ensures) (c .before .before .before .before .before .before .before .before .before .before .before .before .before .before .enum-told .given .1)) }
+    let a = c .before .before .before .before .before .before .before .before .before .before .before .before .before .before .before .before .before .before .args in
+    record { fits = omega (arith, fine-rows (a .way) (offsetOf (a .offset)) (a .mask) (tableOf (a .rows) (a .events) (a .start) (a .cells .now) (a .marks .now)) (λ i. omega (arith, c .before .before .before .before .before .before .before .before .before .before .before .before .before .before .before .before .shared-slice-known2 .given i)) (a .newcells .now) (a .newmarks .now) (a .scratch .now) (a .room) (c .before .before .before .before .before .before .before .before .before .before .before .before .check .ensures) (c .before .before .before .before .before .before .before .before .before .before .enum-told .given .1)) }
 
 returns : tie.Need-returns
 returns c =
@@ -22,10 +22,8 @@ returns c =
 
 returns-2 : tie.Need-returns-2
 returns-2 c =
-    let a = c .before .before .before .before .before .before .before .before .before .before .before .before .before .before .before .before .before .before .before .before .before .before .before .args in
-    let r = c .before .before .before .before .before .before .before .renumber in
-    let f = c .before .before .before .before .before .before .before .before .before .before .before .before .before .fold-rows in
-    work-fine (a .way) (offsetOf (a .offset)) (a .mask) (tableOf (a .rows) (a .events) (a .start) (a .cells .now) (a .marks .now)) (λ i. omega (arith, c .before .before .before .before .before .before .before .before .before .before .before .before .before .before .before .before .before .before .before .before .before .shared-slice-known2 .given i)) (a .newcells .now) (a .newmarks .now) (a .scratch .now) (a .room) (c .before .before .before .before .before .before .before .before .before .before .before .before .before .before .before .before .before .check .ensures) (c .before .before .before .before .before .before .before .before .before .before .before .before .before .before .before .enum-told .given .1) (f .last .1 .1 .1 .1 .1 .1 .1 .1 .0) (f .ensures .folded) (r .ensures .0) (r .ensures .1) (r .ensures .2) (r .ensures .3) (c .needed .ensures)
+    let a = c .before .before .before .before .before .before .before .before .before .before .before .before .before .before .before .before .before .before .before .args in
+    work-fine (a .way) (offsetOf (a .offset)) (a .mask) (tableOf (a .rows) (a .events) (a .start) (a .cells .now) (a .marks .now)) (λ i. omega (arith, c .before .before .before .before .before .before .before .before .before .before .before .before .before .before .before .before .before .shared-slice-known2 .given i)) (a .newcells .now) (a .newmarks .now) (a .scratch .now) (a .room) (c .before .before .before .before .before .before .before .before .before .before .before .before .before .check .ensures) (c .before .before .before .before .before .before .before .before .before .before .before .enum-told .given .1) (c .before .before .before .before .before .before .before .rewrite .ensures) (c .needed .ensures)
 
 pub work-spec : {M : Type 1} → statement M
 work-spec =
@@ -35,8 +33,7 @@ work-spec =
     (λ c. search needs)
     (λ c. search needs)
     (λ c κs. search needs)
-    (λ c κs. search needs)
-    cast-t32
+    cast-t29
     cast-needed
     (λ c κs. search needs)
     returns
