@@ -177,10 +177,11 @@ pub fn work(
                 newmarks,
                 scratch,
             );
+            let n = rows as u16;
             Done {
                 answer: Answer::Reduced(left),
-                rows: rows as u16,
-                used: ways::needed(way, rows as u16),
+                rows: n,
+                used: ways::needed(way, n),
             }
         }
     }

@@ -5,13 +5,8 @@ use borrow.Author.Needs.{needs}
 use Rattle.reduction.proofs.work.Statement.{statement}
 use Rattle.reduction.proofs.work.Tie as tie
 
-cast-t29 : tie.Need-cast-t29
-cast-t29 c =
-    let a = c .before .before .before .before .before .before .before .before .before .before .before .before .before .before .before .before .before .before .args in
-    record { fits = omega (arith, fine-rows (a .way) (offsetOf (a .offset)) (a .mask) (tableOf (a .rows) (a .events) (a .start) (a .cells .now) (a .marks .now)) (λ i. omega (arith, c .before .before .before .before .before .before .before .before .before .before .before .before .before .before .before .before .shared-slice-known2 .given i)) (a .newcells .now) (a .newmarks .now) (a .scratch .now) (a .room) (c .before .before .before .before .before .before .before .before .before .before .before .before .check .ensures) (c .before .before .before .before .before .before .before .before .before .before .enum-told .given .1)) }
-
-cast-needed : tie.Need-cast-needed
-cast-needed c =
+cast-n : tie.Need-cast-n
+cast-n c =
     let a = c .before .before .before .before .before .before .before .before .before .before .before .before .before .before .before .before .before .before .args in
     record { fits = omega (arith, fine-rows (a .way) (offsetOf (a .offset)) (a .mask) (tableOf (a .rows) (a .events) (a .start) (a .cells .now) (a .marks .now)) (λ i. omega (arith, c .before .before .before .before .before .before .before .before .before .before .before .before .before .before .before .before .shared-slice-known2 .given i)) (a .newcells .now) (a .newmarks .now) (a .scratch .now) (a .room) (c .before .before .before .before .before .before .before .before .before .before .before .before .check .ensures) (c .before .before .before .before .before .before .before .before .before .before .enum-told .given .1)) }
 
@@ -33,8 +28,7 @@ work-spec =
     (λ c. search needs)
     (λ c. search needs)
     (λ c κs. search needs)
-    cast-t29
-    cast-needed
+    cast-n
     (λ c κs. search needs)
     returns
     (λ c. search needs)
