@@ -1,0 +1,5 @@
+pub mod Regions
+pub mod Signatures
+pub mod Table
+pub mod Turns
+pub mod Begin
