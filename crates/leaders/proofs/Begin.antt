@@ -10,7 +10,7 @@ use Rattle.scratch.proofs.Numbers.{eq-or-ne}
 use Rattle.splitting.specs.Places.{nxtAt, keyAt, jumpAt, tabAt}
 use Rattle.leaders.specs.Leaders.{rowAt, valueAt, stampAt, targetAt, Changed, Old, Settled, slotOf, Entry, hashIn, Same, Sizes, InHand, Begun, Kept, Joins}
 use Rattle.leaders.specs.Steps.{JoiningIn, Seeded}
-use Rattle.leaders.proofs.Signatures.{hand-still, hash-same, same-same, same-from, settled-to, settled-from}
+use Rattle.leaders.proofs.Signatures.{hand-still, hash-same, same-same, same-from, old-to}
 
 module _ (mask n m u to known last : ℕ) (cells : List ℕ) {s t : List ℕ} (sizes : Sizes n m to known s) (fit : u ≤ to) (b : Begun mask n m to known last cells s) (d : Seeded n known to s t) where
   same-cell : (x : ℕ) → (x < 4 * n + known) ⊎ (5 * n ≤ x) → getD t x 0 ≡ getD s x 0
@@ -22,19 +22,19 @@ module _ (mask n m u to known last : ℕ) (cells : List ℕ) {s t : List ℕ} (s
 
   pub leads-now : (c : ℕ) → c < to → valueAt n s (rowAt n s c) ≡ c → nxtAt n t c ≡ c
   leads-now c h e = elim (decLt c known) [
-    | yes l ↦ same-cell (4 * n + c) (inl (omega arith)) ∙ b .leads c l e
+    | yes l ↦ same-cell (4 * n + c) (inl (omega arith)) ∙ b .past .leads c l e
     | no l ↦ nxt-new c h l ∙ e
   ]
 
   led-before : (c : ℕ) → c < to → nxtAt n t c ≡ c → valueAt n s (rowAt n s c) ≡ c
   led-before c h e = elim (decLt c known) [
-    | yes l ↦ b .led c l (sym (same-cell (4 * n + c) (inl (omega arith))) ∙ e)
+    | yes l ↦ b .past .led c l (sym (same-cell (4 * n + c) (inl (omega arith))) ∙ e)
     | no l ↦ sym (nxt-new c h l) ∙ e
   ]
 
   down-now : (c : ℕ) → c < to → nxtAt n t c ≤ c
   down-now c h = elim (decLt c known) [
-    | yes l ↦ omega (arith, same-cell (4 * n + c) (inl (omega arith)), b .down c l)
+    | yes l ↦ omega (arith, same-cell (4 * n + c) (inl (omega arith)), b .past .down c l)
     | no l ↦ omega (arith, nxt-new c h l, b .low c h)
   ]
 
@@ -45,9 +45,9 @@ module _ (mask n m u to known last : ℕ) (cells : List ℕ) {s t : List ℕ} (s
         table =
             record {
               keys = λ c h l g.
-                  same-cell (6 * n + c) (inr (omega arith)) ∙ b .table .keys c (known-of c g) (lead-of c g l) (old-of c h g) ∙ sym (hash-same (b .hand) (d .kept) (sizes .inside) mask c h);
+                  same-cell (6 * n + c) (inr (omega arith)) ∙ b .past .table .keys c (known-of c g) (lead-of c g l) (old-of c h g) ∙ sym (hash-same (b .hand) (d .kept) (sizes .inside) mask c h);
               entries = λ c h l g.
-                  let e = b .table .entries c (known-of c g) (lead-of c g l) (old-of c h g) in
+                  let e = b .past .table .entries c (known-of c g) (lead-of c g l) (old-of c h g) in
                   let k : keyAt n t c ≡ keyAt n s c = same-cell (6 * n + c) (inr (omega arith)) in
                   record {
                     at = e .at;
@@ -57,7 +57,7 @@ module _ (mask n m u to known last : ℕ) (cells : List ℕ) {s t : List ℕ} (s
                     filled = λ x g₁ l₁ z. e .filled x (subst (λ (y : ℕ). slotOf n y ≤ x) k g₁) l₁ (sym (same-cell (9 * n + x) (inr (omega arith))) ∙ z);
                   };
               lone = λ c d₁ hc hd lc ld gc gd e.
-                  b .table .lone c d₁ (known-of c gc) (known-of d₁ gd) (lead-of c gc lc) (lead-of d₁ gd ld) (old-of c hc gc) (old-of d₁ hd gd) (same-same (b .hand) (d .kept) (sizes .inside) mask c d₁ hc hd e);
+                  b .past .table .lone c d₁ (known-of c gc) (known-of d₁ gd) (lead-of c gc lc) (lead-of d₁ gd ld) (old-of c hc gc) (old-of d₁ hd gd) (same-same (b .hand) (d .kept) (sizes .inside) mask c d₁ hc hd e);
             };
         down = down-now;
         others = λ c h ne. refl;
@@ -75,12 +75,12 @@ module _ (mask n m u to known last : ℕ) (cells : List ℕ) {s t : List ℕ} (s
       lead-of : (c : ℕ) → Settled (Old n m known last cells t) from c → nxtAt n t c ≡ c → nxtAt n s c ≡ c
       lead-of c g l = let k = known-of c g in sym (same-cell (4 * n + c) (inl (omega arith))) ∙ l
 
-      old-of : (c : ℕ) → c < to → Settled (Old n m known last cells t) from c → Settled (Old n m known last cells s) 0 c
-      old-of c h (inl l) = settled-to (b .hand) (d .kept) (sizes .inside) known last 0 c h (inr (omega arith, calm c l))
-      old-of c h (inr o) = settled-to (b .hand) (d .kept) (sizes .inside) known last 0 c h (inr o)
+      old-of : (c : ℕ) → c < to → Settled (Old n m known last cells t) from c → Old n m known last cells s c
+      old-of c h (inl l) = old-to (b .hand) (d .kept) (sizes .inside) known last c h (omega arith, calm c l)
+      old-of c h (inr o) = old-to (b .hand) (d .kept) (sizes .inside) known last c h o
 
   -- After the last.
-  pub end : {w : List ℕ} {lost : ℕ} → JoiningIn mask n m u to known last cells to t w lost → Joins mask n m u to known last cells s w lost
+  pub end : {w : List ℕ} {lost : ℕ} → JoiningIn mask n m u to known last cells to t w lost → Joins mask n m u to cells s w lost
   end {w} {lost} j =
       record {
         down = j .down;

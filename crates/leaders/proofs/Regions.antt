@@ -4,45 +4,33 @@ use mathlib.Core.List.{List}
 use mathlib.Core.Logic.{_⊎_, inl, inr, ⊎-elim}
 use Prim.Native.Nat.{ℕ, _+_, _*_, _≤_, _<_}
 use native.Mathlib.Omega.{arith}
-use lib.ListN.{length, getD, set, length-set}
-use lib.Seq.{getD-set-same, getD-set-other}
+use lib.ListN.{length, getD, set}
+use lib.Seq.{getD-set-same, getD-set-other, getD-take}
 use Rattle.splitting.specs.Places.{nxtAt}
+use Rattle.splitting.proofs.Frames.{frame-none, frame-then, frame-back, frame-set}
 use Rattle.scratch.proofs.Numbers.{eq-or-ne}
 use Rattle.leaders.specs.Leaders.{rowAt, valueAt, Sizes, Kept}
 use Rattle.leaders.specs.Steps.{Seeded}
 
 pub kept-none : {n : ℕ} {s : List ℕ} → Kept n s s
-kept-none = record { size = refl; front = λ x h. refl; stamps = λ x h l. refl; spare = λ x h l. refl; behind = λ x h. refl }
+kept-none = record { frame = frame-none; stamps = λ x h l. refl }
 
 pub kept-then : {n : ℕ} {s t w : List ℕ} → Kept n s t → Kept n t w → Kept n s w
-kept-then a b =
-    record {
-      size = b .size ∙ a .size;
-      front = λ x h. b .front x h ∙ a .front x h;
-      stamps = λ x h l. b .stamps x h l ∙ a .stamps x h l;
-      spare = λ x h l. b .spare x h l ∙ a .spare x h l;
-      behind = λ x h. b .behind x h ∙ a .behind x h;
-    }
+kept-then a b = record { frame = frame-then (a .frame) (b .frame); stamps = λ x h l. b .stamps x h l ∙ a .stamps x h l }
 
 pub kept-back : {n : ℕ} {s t : List ℕ} → Kept n s t → Kept n t s
-kept-back a =
-    record {
-      size = sym (a .size);
-      front = λ x h. sym (a .front x h);
-      stamps = λ x h l. sym (a .stamps x h l);
-      spare = λ x h l. sym (a .spare x h l);
-      behind = λ x h. sym (a .behind x h);
-    }
+kept-back a = record { frame = frame-back (a .frame); stamps = λ x h l. sym (a .stamps x h l) }
+
+-- What stands in front stays.
+pub kept-front : {n : ℕ} {s t : List ℕ} → Kept n s t → (x : ℕ) → x < 4 * n → getD t x 0 ≡ getD s x 0
+kept-front {n} {s} {t} k x h = sym (getD-take (4 * n) t x 0 h) ∙ ap (λ (l : List ℕ). getD l x 0) (k .frame .before) ∙ getD-take (4 * n) s x 0 h
 
 -- A store into region 4, into 6 or 7, or into the table.
 pub kept-set : {n : ℕ} (s : List ℕ) (k x : ℕ) → 4 * n ≤ k → k < 12 * n → (k < 5 * n) ⊎ ((6 * n ≤ k) × ((k < 8 * n) ⊎ (9 * n ≤ k))) → Kept n s (set s k x)
 kept-set {n} s k x from until aside =
     record {
-      size = length-set s k x;
-      front = λ y h. getD-set-other s k y x 0 (λ e. omega arith);
+      frame = frame-set s k x from until (⊎-elim (λ g. inl (omega arith)) (λ g. g .1) aside);
       stamps = λ y h l. getD-set-other s k y x 0 (λ e. ⊎-elim (λ g. omega arith) (λ g. omega (arith, g .0)) aside);
-      spare = λ y h l. getD-set-other s k y x 0 (λ e. ⊎-elim (λ g. omega arith) (λ g. ⊎-elim (λ b. omega arith) (λ b. omega arith) (g .1)) aside);
-      behind = λ y h. getD-set-other s k y x 0 (λ e. omega arith);
     }
 
 -- The sizes fit as long as the number of cells does not change.
@@ -60,7 +48,7 @@ seeded-next {n} {known} {c} {s} {t} x d past h room e =
       here = λ y l g r.
           ⊎-elim
           (λ q. let k : 4 * n + y ≡ 4 * n + c = omega arith in
-          ap (λ (z : ℕ). getD (set t (4 * n + c) x) z 0) k ∙ (getD-set-same t (4 * n + c) x 0 (omega (arith, d .kept .size)) ∙ e (subst (λ (z : ℕ). rowAt n s z < n) q r) ∙ ap (λ (z : ℕ). valueAt n s (rowAt n s z)) (sym q)))
+          ap (λ (z : ℕ). getD (set t (4 * n + c) x) z 0) k ∙ (getD-set-same t (4 * n + c) x 0 (omega (arith, d .kept .frame .size)) ∙ e (subst (λ (z : ℕ). rowAt n s z < n) q r) ∙ ap (λ (z : ℕ). valueAt n s (rowAt n s z)) (sym q)))
           (λ ne. getD-set-other t (4 * n + c) (4 * n + y) x 0 (λ z. ne (omega arith)) ∙ d .here y l (omega arith) r)
           (eq-or-ne y c);
       others = λ y l.

@@ -11,7 +11,7 @@ use lib.ListN.{length, getD}
 use Rattle.automata.proofs.Tests.{either}
 use Rattle.tables.specs.Table.{weightBy}
 use Rattle.leaders.specs.Leaders.{rowAt, valueAt, stampAt, targetAt, classAt, Says, Signed, mixedAt, mixedTo, keyOf, Changed, Old, Settled, hashIn, Same, InHand, Kept}
-use Rattle.leaders.proofs.Regions.{kept-back}
+use Rattle.leaders.proofs.Regions.{kept-back, kept-front}
 
 -- ---- one signature
 
@@ -66,12 +66,12 @@ mixed-none mask n m cells s q = refl
 -- ---- while only the working regions change
 module _ {n m to : ℕ} {cells s t : List ℕ} (g : InHand n m to cells s) (k : Kept n s t) (fit : to ≤ n) where
   pub row-same : (c : ℕ) → c < to → rowAt n t c ≡ rowAt n s c
-  row-same c h = k .front (3 * n + c) (omega arith)
+  row-same c h = kept-front k (3 * n + c) (omega arith)
 
   class-same : (c a : ℕ) → c < to → a < m → classAt n m cells t (rowAt n t c) a ≡ classAt n m cells s (rowAt n s c) a
   class-same c a h l =
       let r = g .targets c a h l in
-      ap (λ (q : ℕ). classAt n m cells t q a) (row-same c h) ∙ k .front (2 * n + targetAt m cells (rowAt n s c) a) (omega arith)
+      ap (λ (q : ℕ). classAt n m cells t q a) (row-same c h) ∙ kept-front k (2 * n + targetAt m cells (rowAt n s c) a) (omega arith)
 
   pub same-same : (mask c d : ℕ) → c < to → d < to → Same mask n m cells t c d → Same mask n m cells s c d
   same-same mask c d hc hd e a l w = sym (class-same c a hc l) ∙ e a l w ∙ class-same d a hd l
@@ -97,9 +97,12 @@ hand-still {n} {m} {to} {cells} {s} {t} g k fit =
 
 module _ {n m to : ℕ} {cells s t : List ℕ} (g : InHand n m to cells s) (k : Kept n s t) (fit : to ≤ n) where
   -- Settled after is settled before, and the other way round.
+  pub old-to : (known last c : ℕ) → c < to → Old n m known last cells t c → Old n m known last cells s c
+  old-to known last c h o = (o .0, λ e. o .1 (changed-same (hand-still g k fit) (kept-back k) fit last c h e))
+
   pub settled-to : (known last i c : ℕ) → c < to → Settled (Old n m known last cells t) i c → Settled (Old n m known last cells s) i c
   settled-to known last i c h (inl l) = inl l
-  settled-to known last i c h (inr o) = inr (o .0, λ e. o .1 (changed-same (hand-still g k fit) (kept-back k) fit last c h e))
+  settled-to known last i c h (inr o) = inr (old-to known last c h o)
 
   pub settled-from : (known last i c : ℕ) → c < to → Settled (Old n m known last cells s) i c → Settled (Old n m known last cells t) i c
   settled-from known last i c h (inl l) = inl l

@@ -26,7 +26,7 @@ module _ (mask n m u to known last : ℕ) (cells : List ℕ) (i : ℕ) {b s : Li
 
     own-k : keyAt n k i ≡ hashIn mask n m cells b i
     own-k = ap (λ (l : List ℕ). keyAt n l i) ke
-        ∙ getD-set-same s (6 * n + i) (hashIn mask n m cells s i) 0 (omega (arith, sizes .inside, sizes .room, kept .size)) ∙ hash-same hand kept (sizes .inside) mask i hi
+        ∙ getD-set-same s (6 * n + i) (hashIn mask n m cells s i) 0 (omega (arith, sizes .inside, sizes .room, kept .frame .size)) ∙ hash-same hand kept (sizes .inside) mask i hi
 
     key-k : (c : ℕ) → c < to → (c ≡ i → ⊥) → keyAt n k c ≡ keyAt n s c
     key-k c h ne = other-k (6 * n + c) (λ e. ne (omega arith))
@@ -87,7 +87,7 @@ module _ (mask n m u to known last : ℕ) (cells : List ℕ) (i : ℕ) {b s : Li
           subst (JoiningIn mask n m u to known last cells (i + 1) b w) none (joining-same
           (turn-enters j sym-b trans-b hash-b hi li (own-k ke) (key-k ke) at (f .from) ha (λ x g c e. f .filled x g c (tab-k ke x ∙ e))
           {tab′ = tabAt n t}
-          (ap (λ (y : List ℕ). tabAt n y at) te ∙ getD-set-same k (9 * n + at) (i + 1) 0 (omega (arith, sizes .room, kept-k ke .size)) ∙ add-one i)
+          (ap (λ (y : List ℕ). tabAt n y at) te ∙ getD-set-same k (9 * n + at) (i + 1) 0 (omega (arith, sizes .room, kept-k ke .frame .size)) ∙ add-one i)
           (λ x h ne. ap (λ (y : List ℕ). tabAt n y x) te ∙ getD-set-other k (9 * n + at) (9 * n + x) (i + 1) 0 (λ e. ne (omega arith)) ∙ tab-k ke x)
           (sym (tab-k ke at) ∙ empty) (unlike-k ke f))
           fit
@@ -104,7 +104,7 @@ module _ (mask n m u to known last : ℕ) (cells : List ℕ) (i : ℕ) {b s : Li
           (subst (λ (x : ℕ). Same mask n m cells b x y) (sym ze) (sym-b y i (same-y ke a))) (omega arith)
           (λ c h l₀ ne e. let p = j .put c h l₀ (λ q. ne (sym q ∙ e)) in omega arith)
           {nxt′ = nxtAt n t}
-          (ap (nxtAt n t) ze ∙ ap (λ (x : List ℕ). nxtAt n x i) te ∙ getD-set-same k (4 * n + i) y 0 (omega (arith, sizes .room, sizes .inside, kept-k ke .size)))
+          (ap (nxtAt n t) ze ∙ ap (λ (x : List ℕ). nxtAt n x i) te ∙ getD-set-same k (4 * n + i) y 0 (omega (arith, sizes .room, sizes .inside, kept-k ke .frame .size)))
           (λ c h ne. ap (λ (x : List ℕ). nxtAt n x c) te ∙ getD-set-other k (4 * n + i) (4 * n + c) y 0 (λ e. ne (omega arith)) ∙ nxt-k ke c h)
           fit grows before listed last-z ze)
           fit
@@ -114,7 +114,7 @@ module _ (mask n m u to known last : ℕ) (cells : List ℕ) (i : ℕ) {b s : Li
           (λ x h. refl)
       step-put (leads k at y ke ha f held a higher te ze) l =
           let hy = a .inside in
-          let rk = kept-k ke .size in
+          let rk = kept-k ke .frame .size in
           joining-same
           (turn-leads j sym-b trans-b hash-b hi li (own-k ke) (key-k ke) z i (omega arith) (omega arith) (subst (λ (x : ℕ). nxtAt n s x ≡ x) (sym ze) (lead-y ke a)) li
           (subst (λ (x : ℕ). Same mask n m cells b x i) (sym ze) (same-y ke a)) (omega arith)
@@ -191,7 +191,7 @@ module _ {mask n m u to known last : ℕ} {cells : List ℕ} {i lost : ℕ} {s t
       step-put mask n m u to known last cells i sizes fit hand hi kept j li t t z r (λ c l. refl) (λ c l. refl) (λ x l. refl) (omega arith)
       (λ x l. put-list inside hi p x (omega arith)) (λ l. absurd (omega arith)) (λ x l₁ l₂. absurd (omega arith)) p g
   step-joins sizes fit hand kept j (noted z k li p low te re) h =
-      let size : length k ≡ length s = put-kept inside hi p .size in
+      let size : length k ≡ length s = put-kept inside hi p .frame .size in
       step-put mask n m u to known last cells i sizes fit hand hi kept j li k t z r
       (λ c l. ap (λ (x : List ℕ). nxtAt n x c) te ∙ getD-set-other k (7 * n + lost) (4 * n + c) z 0 (λ e. omega arith))
       (λ c l. ap (λ (x : List ℕ). keyAt n x c) te ∙ getD-set-other k (7 * n + lost) (6 * n + c) z 0 (λ e. omega arith))
@@ -203,5 +203,5 @@ module _ {mask n m u to known last : ℕ} {cells : List ℕ} {i lost : ℕ} {s t
       p (omega arith)
     where
       here : length k ≡ length s → jumpAt n t lost ≡ z
-      here size = ap (λ (x : List ℕ). jumpAt n x lost) te ∙ getD-set-same k (7 * n + lost) z 0 (omega (arith, sizes .room, kept .size))
+      here size = ap (λ (x : List ℕ). jumpAt n x lost) te ∙ getD-set-same k (7 * n + lost) z 0 (omega (arith, sizes .room, kept .frame .size))
   step-joins sizes fit hand kept j (Stepped.full z p re) h = absurd (omega arith)

@@ -9,7 +9,7 @@ use Prim.Native.Nat.{ℕ, zero, suc, _+_, _*_, _/_, _%_, _≤_, _<_}
 use lib.Dec.{eqb}
 use lib.ListN.{length, getD}
 use Rattle.tables.specs.Table.{weightBy}
-use Rattle.splitting.specs.Places.{nxtAt, keyAt, jumpAt, tabAt}
+use Rattle.splitting.specs.Places.{nxtAt, keyAt, jumpAt, tabAt, Frame}
 
 -- The row at a place, and the value of a row; the level at which that changed last.
 abbrev pub rowAt : ℕ → List ℕ → ℕ → ℕ
@@ -81,16 +81,16 @@ pub record Table (to end : ℕ) (slot hash : ℕ → ℕ) (settled : ℕ → Typ
   pub entries : (c : ℕ) → c < to → nxt c ≡ c → settled c → Entry end slot key tab c
   pub lone : (c d : ℕ) → c < to → d < to → nxt c ≡ c → nxt d ≡ d → settled c → settled d → same c d → c ≡ d
 
--- The same of leaders, keys and table in t, where the signatures are those in s, and the places below i have been put.
+-- The key that a place should have, and places of one signature, in s.
 abbrev pub hashIn : ℕ → ℕ → ℕ → List ℕ → List ℕ → ℕ → ℕ
 hashIn mask n m cells s c = keyOf mask n m cells s (rowAt n s c)
 
 abbrev pub Same : ℕ → ℕ → ℕ → List ℕ → List ℕ → ℕ → ℕ → Type 0
 Same mask n m cells s c d = Signed mask n m cells s (rowAt n s c) (rowAt n s d)
 
-abbrev pub TableIn : ℕ → ℕ → ℕ → ℕ → ℕ → ℕ → List ℕ → ℕ → List ℕ → List ℕ → Type 0
-TableIn mask n m to known last cells i s t =
-    Table to (3 * n) (slotOf n) (hashIn mask n m cells s) (Settled (Old n m known last cells s) i) (Same mask n m cells s) (nxtAt n t) (keyAt n t) (tabAt n t)
+-- The same of the leaders, keys and table in t, with the signatures in s.
+abbrev pub TableIn : ℕ → ℕ → ℕ → ℕ → List ℕ → (ℕ → Type 0) → List ℕ → List ℕ → Type 0
+TableIn mask n m to cells settled s t = Table to (3 * n) (slotOf n) (hashIn mask n m cells s) settled (Same mask n m cells s) (nxtAt n t) (keyAt n t) (tabAt n t)
 
 -- ---- what is asked, and what is left
 
@@ -107,29 +107,30 @@ pub record InHand (n m to : ℕ) (cells s : List ℕ) : Type 0 where
   pub rows : (c : ℕ) → c < to → rowAt n s c < n
   pub targets : (c a : ℕ) → c < to → a < m → targetAt m cells (rowAt n s c) a < n
 
--- Before: a place led at the level before if it is the value of its own row. The `known` places below say so by their leaders, and are in the table.
-pub record Begun (mask n m to known last : ℕ) (cells s : List ℕ) : Type 0 where
-  pub hand : InHand n m to cells s
-  pub low : (c : ℕ) → c < to → valueAt n s (rowAt n s c) ≤ c
+-- A place led at the level before if it is the value of its own row. The `known` first places say so by their leaders, and are in the table but for those that a change concerns.
+pub record Known (mask n m known last : ℕ) (cells s : List ℕ) : Type 0 where
   pub down : (c : ℕ) → c < known → nxtAt n s c ≤ c
   pub leads : (c : ℕ) → c < known → valueAt n s (rowAt n s c) ≡ c → nxtAt n s c ≡ c
   pub led : (c : ℕ) → c < known → nxtAt n s c ≡ c → valueAt n s (rowAt n s c) ≡ c
-  pub table : TableIn mask n m known known last cells 0 s s
+  pub table : TableIn mask n m known cells (Old n m known last cells s) s s
+
+-- Before.
+pub record Begun (mask n m to known last : ℕ) (cells s : List ℕ) : Type 0 where
+  pub hand : InHand n m to cells s
+  pub low : (c : ℕ) → c < to → valueAt n s (rowAt n s c) ≤ c
+  pub past : Known mask n m known last cells s
 
 -- Only the working regions have changed: leaders, keys, jumps and the table.
 pub record Kept (n : ℕ) (s t : List ℕ) : Type 0 where
-  pub size : length t ≡ length s
-  pub front : (x : ℕ) → x < 4 * n → getD t x 0 ≡ getD s x 0
+  pub frame : Frame n s t
   pub stamps : (x : ℕ) → 5 * n ≤ x → x < 6 * n → getD t x 0 ≡ getD s x 0
-  pub spare : (x : ℕ) → 8 * n ≤ x → x < 9 * n → getD t x 0 ≡ getD s x 0
-  pub behind : (x : ℕ) → 12 * n ≤ x → getD t x 0 ≡ getD s x 0
 
 -- After: each place that led at the level before has the first place of its signature for its leader; `lost` of those below u lead no more, and are listed.
-pub record Joins (mask n m u to known last : ℕ) (cells s t : List ℕ) (lost : ℕ) : Type 0 where
+pub record Joins (mask n m u to : ℕ) (cells s t : List ℕ) (lost : ℕ) : Type 0 where
   pub down : (c : ℕ) → c < to → nxtAt n t c ≤ c
   pub others : (c : ℕ) → c < to → (valueAt n s (rowAt n s c) ≡ c → ⊥) → nxtAt n t c ≡ c → ⊥
   pub leads : (c : ℕ) → c < to → valueAt n s (rowAt n s c) ≡ c → nxtAt n t (nxtAt n t c) ≡ nxtAt n t c
-  pub signed : (c : ℕ) → c < to → valueAt n s (rowAt n s c) ≡ c → Signed mask n m cells s (rowAt n s c) (rowAt n s (nxtAt n t c))
-  pub table : TableIn mask n m to known last cells to s t
+  pub signed : (c : ℕ) → c < to → valueAt n s (rowAt n s c) ≡ c → Same mask n m cells s c (nxtAt n t c)
+  pub table : TableIn mask n m to cells (λ c. c < to) s t
   pub listed : (c : ℕ) → c < u → valueAt n s (rowAt n s c) ≡ c → (nxtAt n t c ≡ c → ⊥) → (x : ℕ) × (x < lost) × (jumpAt n t x ≡ c)
   pub losers : (x : ℕ) → x < lost → (jumpAt n t x < u) × (valueAt n s (rowAt n s (jumpAt n t x)) ≡ jumpAt n t x) × (nxtAt n t (jumpAt n t x) ≡ jumpAt n t x → ⊥)

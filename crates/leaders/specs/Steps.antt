@@ -16,12 +16,12 @@ pub record Alike (mask n m to known last : ℕ) (cells s : List ℕ) (i y : ℕ)
   pub settled : Settled (Old n m known last cells s) i y
   pub signed : Same mask n m cells s y i
 
--- Cell r of the table is the first from the slot of place i on that is empty or has a place like i; the end if there is none.
+-- Cell r of the table is the first from the slot of place i on that is empty or has a place like i.
 pub record Found (mask n m to known last : ℕ) (cells : List ℕ) (i : ℕ) (s : List ℕ) (r : ℕ) : Type 0 where
   pub from : slotOf n (keyAt n s i) ≤ r
   pub filled : (x : ℕ) → slotOf n (keyAt n s i) ≤ x → x < r → tabAt n s x ≡ 0 → ⊥
   pub unlike : (x y : ℕ) → slotOf n (keyAt n s i) ≤ x → x < r → tabAt n s x ≡ suc y → Alike mask n m to known last cells s i y → ⊥
-  pub like : r < 3 * n → (y : ℕ) → tabAt n s r ≡ suc y → Alike mask n m to known last cells s i y
+  pub like : (y : ℕ) → tabAt n s r ≡ suc y → Alike mask n m to known last cells s i y
 
 -- What becomes of place i; k is what stands after its key has been noted.
 pub data Put (mask n m to known last : ℕ) (cells : List ℕ) (i : ℕ) (s t : List ℕ) (r : ℕ) : Type 0 where

@@ -1,7 +1,7 @@
 // The classes of a level above 0 where idle events stay: rows are near just if every counted event leads them to one class of the level before, which is
 // their signature. One table of leaders is gone on with from level to level, and only those are put again of which an event leads to a class that changed.
 ghost use mathlib.Core.Path.{_≡_};
-ghost use Prim.Native.Nat.{_≤_, _<_};
+ghost use Prim.Native.Nat.{_*_, _≤_, _<_};
 ghost use Rattle.scratch.specs.Tests.{Tested};
 ghost use Rattle.leaders.specs.Leaders.{classAt, mixedAt, keyOf, Says, Signed, Changed, Old, Settled, Sizes, InHand, Kept, Begun, Joins};
 ghost use Rattle.leaders.specs.Steps.{Alike, Found, Put, Stepped, Seeded, JoiningIn};
@@ -165,7 +165,7 @@ fn alike(
     )
 }
 
-// From the slot of its key on, the first cell of the table that is empty or has a place like i; the table's end if there is none.
+// From the slot of its key on, the first cell of the table that is empty or has a place like i; the table's end if there is none among 64 cells.
 fn find(
     mask: u32,
     n: usize,
@@ -178,10 +178,14 @@ fn find(
     i: usize,
 ) -> usize
     requires { ⌜ Sizes n m to known (now scratch) × (i < to) ⌝ }
-    ensures { λ r. ⌜ Found mask n m to known last (now (cells .entry)) i (now (scratch .entry)) r ⌝ }
+    ensures { λ r. ⌜ (r < 3 * n → Found mask n m to known last (now (cells .entry)) i (now (scratch .entry)) r) ⌝ }
 {
     let mut at = rules::wide(scratch[6 * n + i]) * (2 * n) / 65536;
-    while at < 3 * n {
+    let end = at + 64;
+    while at < end {
+        if 3 * n <= at {
+            return at;
+        }
         let x = rules::wide(scratch[9 * n + at]);
         if x == 0 {
             return at;
@@ -191,7 +195,7 @@ fn find(
         }
         at += 1;
     }
-    at
+    3 * n
 }
 
 // Place i is entered into the table, or joined to the place like it: the lower leads. Answers the place that leads no more; `to` if none does, more if there was no room.
@@ -342,7 +346,7 @@ pub fn join(
     scratch: &mut [u16],
 ) -> usize
     ensures { λ r. ⌜ (let x = now (cells .entry) in let s = now (scratch .entry) in let t = now (scratch .exit) in
-        Kept n s t × (Sizes n m to known s → u ≤ to → Begun mask n m to known last x s → r ≤ 1024 → Joins mask n m u to known last x s t r)) ⌝ }
+        Kept n s t × (Sizes n m to known s → u ≤ to → Begun mask n m to known last x s → r ≤ 1024 → Joins mask n m u to x s t r)) ⌝ }
 {
     if !sized(n, m, u, to, known, scratch) {
         return 1025;

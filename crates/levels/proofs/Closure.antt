@@ -31,6 +31,13 @@ module _ {E : Events} {M : Machine} (z : Light E) (W : ℕ → Type 0) (cl : Clo
   near-suc : (q p : ℕ) → W q → W p → R q p → Near E M M (suc L) q p
   near-suc q p hq hp r = record { same = λ w hw hl. go w q p hq hp hw hl r }
 
+-- Where idle events stay on W, rows are near at level L + 1 if their targets of counted events are near at level L.
+pub near-signed : {E : Events} {M : Machine} (z : Light E) (W : ℕ → Type 0) → Closed E M W → ((q a : ℕ) → W q → a < E .count → E .weight a ≡ 0 → M .target q a ≡ q)
+    → (L q p : ℕ) → W q → W p → ((a : ℕ) → a < E .count → E .weight a ≡ 1 → Near E M M L (M .target q a) (M .target p a)) → Near E M M (suc L) q p
+near-signed {E} {M} z W cl stays L = near-suc z W cl (λ q p. (a : ℕ) → a < E .count → E .weight a ≡ 1 → Near E M M L (M .target q a) (M .target p a)) L
+    (λ q p b hq hp hb e r a ha c. rw (stays q b hq hb e, stays p b hp hb e) (r a ha c))
+    (λ q p a hq hp ha c r. r a ha c)
+
 module _ {E : Events} {M : Machine} (z : Light E) (W : ℕ → Type 0) (cl : Closed E M W) where
   -- Rest passes to rows whose counted events lead into W, one level up.
   pub rests-wider : (U : ℕ → Type 0) → Closed E M U → ((q a : ℕ) → U q → a < E .count → E .weight a ≡ 1 → W (M .target q a))

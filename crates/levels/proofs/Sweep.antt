@@ -29,7 +29,7 @@ module _ {E : Events} {M : Machine} {k L i : ℕ} {val : ℕ → ℕ} (l : Led E
   near-leader : (q : ℕ) → Placed E M i q → Near E M M L q (getD (keptTo E M k i) (val q) 0)
   near-leader q p = subst (λ (x : ℕ). Near E M M L x (getD (keptTo E M k i) (val x) 0)) (p .2) (l .close (p .0) (p .1))
 
-  led-exact : (q p : ℕ) → Placed E M i q → Placed E M i p → val q ≡ val p → Near E M M L q p
+  pub led-exact : (q p : ℕ) → Placed E M i q → Placed E M i p → val q ≡ val p → Near E M M L q p
   led-exact q p hq hp e = near-trans (near-leader q hq) (near-cast (ap (λ (c : ℕ). getD (keptTo E M k i) c 0) (sym e)) refl (near-sym (near-leader p hp)))
 
   pub led-sound : (q p : ℕ) → Placed E M i q → Placed E M i p → Near E M M L q p → val q ≡ val p

@@ -25,6 +25,9 @@ frame-then f g =
       behind = g .behind ∙ f .behind;
     }
 
+pub frame-back : {n : ℕ} {s t : List ℕ} → Frame n s t → Frame n t s
+frame-back f = record { size = sym (f .size); before = sym (f .before); spare = λ k l h. sym (f .spare k l h); behind = sym (f .behind) }
+
 pub frame-set : {n : ℕ} (s : List ℕ) (k x : ℕ) → 4 * n ≤ k → k < 12 * n → (k < 8 * n) ⊎ (9 * n ≤ k) → Frame n s (set s k x)
 frame-set {n} s k x from until aside =
     record {

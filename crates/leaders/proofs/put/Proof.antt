@@ -23,7 +23,7 @@ slice-write-scratch-2 c = simp length-set (omega (arith, c .before .before .befo
 returns-2 : tie.Need-returns-2
 returns-2 c =
     let a = c .before .before .before .before .before .before .before .before .before .before .args in
-    entered (set (a .scratch .now) (6 * a .n + a .i) (c .before .before .before .before .before .before .key-of .result)) (c .before .before .before .before .find .result) (ap (set (a .scratch .now) (6 * a .n + a .i)) (c .before .before .before .before .before .before .key-of .ensures)) (omega arith) (c .before .before .before .before .find .ensures) (sym (c .before .wide .ensures) ∙ c .if2 .taken) refl refl
+    entered (set (a .scratch .now) (6 * a .n + a .i) (c .before .before .before .before .before .before .key-of .result)) (c .before .before .before .before .find .result) (ap (set (a .scratch .now) (6 * a .n + a .i)) (c .before .before .before .before .before .before .key-of .ensures)) (omega arith) (c .before .before .before .before .find .ensures (omega arith)) (sym (c .before .wide .ensures) ∙ c .if2 .taken) refl refl
 
 slice-write-scratch-3 : tie.Need-slice-write-scratch-3
 slice-write-scratch-3 c = simp length-set (omega (arith, c .before .before .before .before .before .before .before .before .before .before .before .pre .0 .room, c .before .before .before .before .before .before .before .before .before .before .before .pre .0 .inside, c .before .before .before .before .before .before .before .before .before .before .before .pre .1))
@@ -32,11 +32,11 @@ returns-3 : tie.Need-returns-3
 returns-3 c =
     let a = c .before .before .before .before .before .before .before .before .before .before .before .args in
     follows (set (a .scratch .now) (6 * a .n + a .i) (c .before .before .before .before .before .before .before .key-of .result)) (c .before .before .wide .result - 1) (ap (set (a .scratch .now) (6 * a .n + a .i)) (c .before .before .before .before .before .before .before .key-of .ensures))
-    (c .before .before .before .before .before .find .ensures .like (omega arith) (c .before .before .wide .result - 1) (sym (c .before .before .wide .ensures) ∙ omega arith)) (c .if3 .taken) refl refl
+    (c .before .before .before .before .before .find .ensures (omega arith) .like (c .before .before .wide .result - 1) (sym (c .before .before .wide .ensures) ∙ omega arith)) (c .if3 .taken) refl refl
 
 -- the place in the cell is like place i
 like : (c : tie.Else3) → let a = c .before .before .before .before .before .before .before .before .before .before .before .args in Alike (a .mask) (a .n) (a .m) (a .to) (a .known) (a .last) (a .cells .now) (set (a .scratch .now) (6 * a .n + a .i) (c .before .before .before .before .before .before .before .key-of .result)) (a .i) (c .before .before .wide .result - 1)
-like c = c .before .before .before .before .before .find .ensures .like (omega arith) (c .before .before .wide .result - 1) (sym (c .before .before .wide .ensures) ∙ omega arith)
+like c = c .before .before .before .before .before .find .ensures (omega arith) .like (c .before .before .wide .result - 1) (sym (c .before .before .wide .ensures) ∙ omega arith)
 
 add-scratch-5 : tie.Need-add-scratch-5
 add-scratch-5 c = omega (arith, c .before .before .before .before .before .before .before .before .before .before .before .pre .0 .few, c .before .before .before .before .before .before .before .before .before .before .before .pre .0 .inside, like c .inside)
@@ -53,7 +53,7 @@ slice-write-scratch-5 c = simp length-set (omega (arith, c .before .before .befo
 returns-4 : tie.Need-returns-4
 returns-4 c =
     let a = c .before .before .before .before .before .before .before .before .before .before .before .args in
-    leads (set (a .scratch .now) (6 * a .n + a .i) (c .before .before .before .before .before .before .before .key-of .result)) (c .before .before .before .before .before .find .result) (c .before .before .wide .result - 1) (ap (set (a .scratch .now) (6 * a .n + a .i)) (c .before .before .before .before .before .before .before .key-of .ensures)) (omega arith) (c .before .before .before .before .before .find .ensures)
+    leads (set (a .scratch .now) (6 * a .n + a .i) (c .before .before .before .before .before .before .before .key-of .result)) (c .before .before .before .before .before .find .result) (c .before .before .wide .result - 1) (ap (set (a .scratch .now) (6 * a .n + a .i)) (c .before .before .before .before .before .before .before .key-of .ensures)) (omega arith) (c .before .before .before .before .before .find .ensures (omega arith))
     (sym (c .before .before .wide .ensures) ∙ omega arith) (like c) (omega (arith, like c .other)) refl refl
 
 pub put-spec : {M : Type 1} → statement M

@@ -3,7 +3,7 @@ use mathlib.Core.Path.{_≡_, sym, ap, subst, _∙_}
 use lib.ListN.{getD}
 use Rattle.leaders.specs.Leaders.{rowAt, valueAt}
 use Rattle.leaders.specs.Steps.{Seeded}
-use Rattle.leaders.proofs.Regions.{seeded-none, seeded-next}
+use Rattle.leaders.proofs.Regions.{kept-front, seeded-none, seeded-next}
 use native.Mathlib.Omega.{arith}
 use Rattle.leaders.proofs.seed.Statement.{statement}
 use Rattle.leaders.proofs.seed.Tie as tie
@@ -24,7 +24,7 @@ add-wide : tie.Need-add-wide Inv-loop μ-loop
 add-wide c = omega (arith, c .before .before .before .pre .few, c .before .before .before .pre .inside)
 
 slice-read-wide : tie.Need-slice-read-wide Inv-loop μ-loop
-slice-read-wide c = omega (arith, c .before .before .before .before .pre .room, c .before .before .before .before .pre .inside, c .before .before .loop .inv .2 .kept .size)
+slice-read-wide c = omega (arith, c .before .before .before .before .pre .room, c .before .before .before .before .pre .inside, c .before .before .loop .inv .2 .kept .frame .size)
 
 mul-cell : tie.Need-mul-cell Inv-loop μ-loop
 mul-cell c = omega (arith, c .before .before .before .before .before .before .pre .few)
@@ -42,7 +42,7 @@ mul-scratch-2 : tie.Need-mul-scratch-2 Inv-loop μ-loop
 mul-scratch-2 c = omega (arith, c .before .before .before .before .before .before .before .pre .few, c .before .before .before .before .before .before .before .pre .inside)
 
 slice-write-scratch : tie.Need-slice-write-scratch Inv-loop μ-loop
-slice-write-scratch c = omega (arith, c .before .before .before .before .before .before .before .pre .room, c .before .before .before .before .before .before .before .pre .inside, c .before .before .before .before .before .loop .inv .2 .kept .size)
+slice-write-scratch c = omega (arith, c .before .before .before .before .before .before .before .pre .room, c .before .before .before .before .before .before .before .pre .inside, c .before .before .before .before .before .loop .inv .2 .kept .frame .size)
 
 loop-again : tie.Need-loop-again Inv-loop μ-loop
 loop-again c =
@@ -50,16 +50,13 @@ loop-again c =
     let d = c .before .before .before .before .before .loop .inv .2 in
     let a = c .before .before .before .before .before .before .before .args in
     let l = c .before .before .before .before .before .loop in
-    let row = d .kept .front (3 * a .n + l .c) (omega (arith, p .inside)) in (
-      omega arith,
-      omega arith,
-      seeded-next _ d (l .inv .0) (omega (arith, p .inside)) (p .room) (λ h.
-          let e : c .before .before .wide .result ≡ rowAt (a .n) (a .scratch .now) (l .c) = c .before .before .wide .ensures ∙ row in
-          c .cell .ensures ∙ ap (λ (x : ℕ). getD (l .scratch) (2 * a .n + x) 0) e ∙ d .kept .front (2 * a .n + rowAt (a .n) (a .scratch .now) (l .c)) (omega arith)),
-    )
+    let row = kept-front (d .kept) (3 * a .n + l .c) (omega (arith, p .inside)) in
+    (omega arith, omega arith, seeded-next _ d (l .inv .0) (omega (arith, p .inside)) (p .room) (λ h.
+    let e : c .before .before .wide .result ≡ rowAt (a .n) (a .scratch .now) (l .c) = c .before .before .wide .ensures ∙ row in
+    c .cell .ensures ∙ ap (λ (x : ℕ). getD (l .scratch) (2 * a .n + x) 0) e ∙ kept-front (d .kept) (2 * a .n + rowAt (a .n) (a .scratch .now) (l .c)) (omega arith)))
 
 same-length : tie.Need-same-length Inv-loop μ-loop
-same-length c = c .before .loop .inv .2 .kept .size
+same-length c = c .before .loop .inv .2 .kept .frame .size
 
 returns : tie.Need-returns Inv-loop μ-loop
 returns c =
@@ -69,6 +66,7 @@ returns c =
 pub seed-spec : {M : Type 1} → statement M
 seed-spec =
     tie.close
+    
     (tie.spec
     Inv-loop
     μ-loop

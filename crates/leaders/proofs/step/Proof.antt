@@ -22,13 +22,13 @@ put-requires : tie.Need-put-requires
 put-requires c κs = (c .before .before .before .before .before .before .before .before .before .pre .0, c .before .before .before .before .before .before .before .before .before .pre .2)
 
 same-length-2 : tie.Need-same-length-2
-same-length-2 c = put-kept (c .before .before .before .before .before .before .before .before .before .before .before .before .before .pre .0 .inside) (c .before .before .before .before .before .before .before .before .before .before .before .before .before .pre .2) (c .before .before .before .put .ensures) .size
+same-length-2 c = put-kept (c .before .before .before .before .before .before .before .before .before .before .before .before .before .pre .0 .inside) (c .before .before .before .before .before .before .before .before .before .before .before .before .before .pre .2) (c .before .before .before .put .ensures) .frame .size
 
 returns-3 : tie.Need-returns-3
 returns-3 c = Stepped.full _ (c .before .before .before .put .ensures) (omega arith)
 
 same-length-3 : tie.Need-same-length-3
-same-length-3 c = put-kept (c .before .before .before .before .before .before .before .before .before .before .before .before .before .before .pre .0 .inside) (c .before .before .before .before .before .before .before .before .before .before .before .before .before .before .pre .2) (c .before .before .before .before .put .ensures) .size
+same-length-3 c = put-kept (c .before .before .before .before .before .before .before .before .before .before .before .before .before .before .pre .0 .inside) (c .before .before .before .before .before .before .before .before .before .before .before .before .before .before .pre .2) (c .before .before .before .before .put .ensures) .frame .size
 
 returns-4 : tie.Need-returns-4
 returns-4 c = passed _ (sym (c .before .before .before .before .before .before .before .before .before .before .wide .ensures) ∙ c .before .before .before .before .before .before .before .before .before .if1 .left) (c .before .before .before .before .put .ensures) (c .if4 .taken) (omega arith) refl
@@ -37,7 +37,7 @@ cast-scratch : tie.Need-cast-scratch
 cast-scratch c = omega (arith, c .before .before .before .before .before .before .before .before .before .before .before .before .before .before .pre .0 .few, c .before .before .before .before .before .before .before .before .before .before .before .before .before .before .pre .0 .inside, c .before .before .before .before .before .before .before .before .before .before .before .before .before .before .pre .1)
 
 slice-write-scratch : tie.Need-slice-write-scratch
-slice-write-scratch c = omega (arith, c .before .before .before .before .before .before .before .before .before .before .before .before .before .before .pre .0 .room, c .before .before .before .before .before .before .before .before .before .before .before .before .before .before .pre .0 .inside, c .before .before .before .before .before .before .before .before .before .before .before .before .before .before .pre .2, c .before .before .before .before .before .before .before .before .before .before .before .before .before .before .pre .3, put-kept (c .before .before .before .before .before .before .before .before .before .before .before .before .before .before .pre .0 .inside) (c .before .before .before .before .before .before .before .before .before .before .before .before .before .before .pre .2) (c .before .before .before .before .put .ensures) .size)
+slice-write-scratch c = omega (arith, c .before .before .before .before .before .before .before .before .before .before .before .before .before .before .pre .0 .room, c .before .before .before .before .before .before .before .before .before .before .before .before .before .before .pre .0 .inside, c .before .before .before .before .before .before .before .before .before .before .before .before .before .before .pre .2, c .before .before .before .before .before .before .before .before .before .before .before .before .before .before .pre .3, put-kept (c .before .before .before .before .before .before .before .before .before .before .before .before .before .before .pre .0 .inside) (c .before .before .before .before .before .before .before .before .before .before .before .before .before .before .pre .2) (c .before .before .before .before .put .ensures) .frame .size)
 
 returns-5 : tie.Need-returns-5
 returns-5 c = noted _ _ (sym (c .before .before .before .before .before .before .before .before .before .before .wide .ensures) ∙ c .before .before .before .before .before .before .before .before .before .if1 .left) (c .before .before .before .before .put .ensures) (omega arith) refl refl
@@ -45,6 +45,7 @@ returns-5 c = noted _ _ (sym (c .before .before .before .before .before .before 
 pub step-spec : {M : Type 1} → statement M
 step-spec =
     tie.close
+    
     (tie.spec
     (λ c. search needs)
     (λ c. search needs)

@@ -21,13 +21,13 @@ step-requires : tie.Need-step-requires Inv-loop μ-loop
 step-requires c κs =
     let p = c .before .before .before .before .before .pre in
     let l = c .before .before .loop .inv in
-    (sizes-still (p .0) (l .3 .size), p .1, c .before .loop-test .taken, l .2)
+    (sizes-still (p .0) (l .3 .frame .size), p .1, c .before .loop-test .taken, l .2)
 
 same-length : tie.Need-same-length Inv-loop μ-loop
 same-length c =
     let p = c .before .before .before .before .before .before .before .before .before .pre in
     let l = c .before .before .before .before .before .before .loop .inv in
-    step-kept (p .0 .inside) (c .before .before .before .before .before .loop-test .taken) (l .2) (c .before .before .before .step .ensures) .size ∙ l .3 .size
+    step-kept (p .0 .inside) (c .before .before .before .before .before .loop-test .taken) (l .2) (c .before .before .before .step .ensures) .frame .size ∙ l .3 .frame .size
 
 returns : tie.Need-returns Inv-loop μ-loop
 returns c =
@@ -40,16 +40,12 @@ loop-again c =
     let p = c .before .before .before .before .before .before .before .before .before .pre in
     let l = c .before .before .before .before .before .before .loop .inv in
     let st = c .before .before .before .step .ensures in
-    let lt = c .before .before .before .before .before .loop-test .taken in (
-      omega arith,
-      omega arith,
-      step-few (p .0 .inside) lt (l .2) st (omega arith),
-      kept-then (l .3) (step-kept (p .0 .inside) lt (l .2) st),
-      λ h j. step-joins (p .0 .inside) lt (l .2) (p .0) (p .1) h (l .3) (l .4 h j) st (omega arith),
-    )
+    let lt = c .before .before .before .before .before .loop-test .taken in
+    (omega arith, omega arith, step-few (p .0 .inside) lt (l .2) st (omega arith), kept-then (l .3) (step-kept (p .0 .inside) lt (l .2) st),
+    λ h j. step-joins (p .0 .inside) lt (l .2) (p .0) (p .1) h (l .3) (l .4 h j) st (omega arith))
 
 same-length-2 : tie.Need-same-length-2 Inv-loop μ-loop
-same-length-2 c = c .before .loop .inv .3 .size
+same-length-2 c = c .before .loop .inv .3 .frame .size
 
 returns-2 : tie.Need-returns-2 Inv-loop μ-loop
 returns-2 c =
@@ -61,6 +57,7 @@ returns-2 c =
 pub step-all-spec : {M : Type 1} → statement M
 step-all-spec =
     tie.close
+    
     (tie.spec
     Inv-loop
     μ-loop
