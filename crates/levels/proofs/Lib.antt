@@ -7,3 +7,4 @@ pub mod Sheet
 pub mod Borders
 pub mod Kept
 pub mod Sweep
+pub mod Parting
