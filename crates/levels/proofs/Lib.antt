@@ -8,3 +8,4 @@ pub mod Borders
 pub mod Kept
 pub mod Sweep
 pub mod Signed
+pub mod Parting

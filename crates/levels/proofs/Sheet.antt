@@ -18,7 +18,7 @@ use Rattle.tables.specs.Lengths.{distance, depth, reached}
 use Rattle.tables.specs.Table.{Offset, offset}
 use Rattle.tables.specs.Lists.{some}
 use Rattle.tables.specs.Reduction.{order, kept}
-use Rattle.tables.proofs.Lengths.{distance-is}
+use Rattle.tables.proofs.Lengths.{Below, distance-is, distance-below}
 use Rattle.tables.proofs.Lists.{mem-take, take-mem, some-mem, mem-some, distinct-count, place-is}
 use Rattle.tables.proofs.Folds.{kept-order, folding}
 use Rattle.levels.specs.Levels.{need, far, shorter, till, under, rowAt, needAt, nearest, before, apart, goes, ahead, nearestOf}
@@ -56,6 +56,21 @@ within-one (len a) (len b) f g =
 within-one (len a) endless f g = absurd (f a (omega arith))
 within-one endless (len b) f g = absurd (g b (omega arith))
 within-one endless endless f g = refl
+
+shorter-below : (n : ℕ) (x y : Len) → Below n x → Below n y → Below n (shorter x y)
+shorter-below n (len a) (len b) hx hy = omega arith
+shorter-below n (len a) endless hx hy = hx
+shorter-below n endless y hx hy = hy
+
+-- A least distance is endless, or less than the rows are.
+pub nearestOf-below : (E : Events) (M : Machine) (q : ℕ) (f : ℕ → Bool) (m : ℕ) → Below (M .rows) (nearestOf E M q f m)
+unfolding nearestOf
+nearestOf-below E M q f zero = tt
+nearestOf-below E M q f (suc m) = pick (f m) (nearestOf-below E M q f m)
+  where
+    pick : (b : Bool) → Below (M .rows) (nearestOf E M q f m) → Below (M .rows) (cond b (shorter (nearestOf E M q f m) (distance E M q m)) (nearestOf E M q f m))
+    pick true ih = shorter-below (M .rows) (nearestOf E M q f m) (distance E M q m) ih (distance-below E M q m)
+    pick false ih = ih
 
 -- The offset is below `till` just if the least distance is above what the depth leaves of the offset.
 till-gone : (k : ℕ) (m d : Len) → Within m (need k d) → under k (till m d) ≡ false
@@ -168,6 +183,9 @@ module _ {E : Events} {M : Machine} (s : Sound E M) (z : Light E) where
           let x = nearestOf-holds (rowAt E M j) L (ahead E M (rowAt E M j)) (at-row E M j h) (M .rows) (omega arith) w in
           let i = place-of E M (x .0) (x .1) (ahead-reached E M (rowAt E M j) (x .0) v (x .2)) in
           apart-found (i .0) j L (ahead-earlier E M (i .0) j (i .1) h (subst (λ (p : ℕ). ahead E M (rowAt E M j) p ≡ true) (sym (i .2)) (x .2))) h (near-cast refl (sym (i .2)) (x .3)))
+
+  pub apart-below : (q : ℕ) → q < M .rows → reached E M q ≡ true → Below (M .rows) (apart E M q)
+  apart-below q hq u = subst (Below (M .rows)) (sym (apart-is q hq u)) (nearestOf-below E M q (ahead E M q) (M .rows))
 
   -- ---- the sheet
 

@@ -5,7 +5,7 @@ use Prim.Native.Nat.{ℕ, suc, _+_, _-_, _*_, _≤_, _<_}
 use native.Mathlib.Omega.{arith}
 use lib.ListN.{length, getD, replicate}
 use Rattle.tables.specs.Lists.{tabulate, over}
-use Rattle.tables.specs.Table.{Table, offset, none, Valid, Agrees, weightBy}
+use Rattle.tables.specs.Table.{Table, offset, none, Valid, Agrees, machine, eventsOf, weightBy}
 use Rattle.tables.specs.Reduction.{reduced}
 use Rattle.tables.proofs.Lists.{tabulate-same}
 use Rattle.tables.proofs.Over.{front-at}
@@ -20,23 +20,25 @@ use Rattle.scratch.specs.Scratch.{scratchCells, cleared}
 use Rattle.pairs.proofs.Triangle.{needed-value}
 use Rattle.scratch.proofs.Cells.{clear-work}
 use Rattle.pairs.proofs.Works.{valid-workable}
-use Rattle.lengths.specs.Lengths.{lengthsIn}
-use Rattle.lengths.proofs.Found.{lengths-size, lengths-hold, lengths-beyond}
+use Rattle.quick_folding.specs.Parting.{Aparts}
+use Rattle.apart.specs.Finding.{leadsFrom, FoundAt, Finding}
+use Rattle.apart.proofs.Found.{from-low}
+use Rattle.sheet_rules.specs.Checks.{entries, verdict}
+use Rattle.sheet_rules.proofs.Room.{Roomy, fine-roomy}
 use Rattle.offsets.specs.declared.Listed.{Listed}
 use Rattle.offsets.specs.declared.Listed.the-variants as listed
-use Rattle.offsets.specs.Sheet.{entries, sheet, verdict, answerBy, Promise}
+use Rattle.offsets.specs.Sheet.{sheet, answerBy, Promise}
 use Rattle.offsets.specs.Steps.{keptAt}
 use Rattle.offsets.proofs.Meaning.{kept-held}
-use Rattle.offsets.proofs.Room.{Roomy, fine-roomy}
 
 -- What is counted in the scratch of a valid table is the sheet.
-sheet-found : (mask : ℕ) (T : Table) (s : List ℕ) → Valid T → needed (T .rows) ≤ length s
-    → tabulate (entries (T .rows)) (keptAt (T .rows) (lengthsIn mask T s)) ≡ sheet (weightBy mask) T
+sheet-found : (mask : ℕ) (T : Table) (from : ℕ) (s : List ℕ) → Valid T → Aparts (eventsOf (weightBy mask) T) (machine T) from s
+    → tabulate (entries (T .rows)) (keptAt from (T .rows) s) ≡ sheet (weightBy mask) T
 unfolding sheet
-sheet-found mask T s v room =
+sheet-found mask T from s v a =
     let z = mask-light mask T in
-    tabulate-same (entries (T .rows)) (keptAt (T .rows) (lengthsIn mask T s)) (λ k. reduced (weightBy mask) (offset k) T .rows) (λ k h.
-    kept-held (v .rows-fit) (lengths-hold mask T s (valid-workable T (length s) v room)) (sound-of (weightBy mask) T T refl v) z k (omega (arith, v .rows-fit))
+    tabulate-same (entries (T .rows)) (keptAt from (T .rows) s) (λ k. reduced (weightBy mask) (offset k) T .rows) (λ k h.
+    kept-held (v .rows-fit) a (sound-of (weightBy mask) T T refl v) z k (omega (arith, v .rows-fit))
     ∙ sym (rows-kept (weightBy mask) (z .at-most) T v (offset k)))
 
 -- An answer with entries is given where no rule is broken.
@@ -99,16 +101,26 @@ module _ (mask : ℕ) (T : Table) (bytes : (i : ℕ) → getD (T .marks) i 0 < 2
       pub fine-list : entries (T .rows) ≤ length list
       fine-list = fine-roomy mask T (length list) (length scratch) bytes (sym hu ∙ e) .list-fits
 
-      pub promised-fine : (s list′ : List ℕ) {to : ℕ} {scratch′ : List ℕ} → s ≡ lengthsIn mask T scratch → list′ ≡ over list 0 (tabulate (entries (T .rows)) (keptAt (T .rows) s))
-          → to ≡ needed (T .rows) → scratch′ ≡ cleared s 0 to → Promise v mask T list scratch (listed.Entries (2 * T .rows + 1)) list′ scratch′
-      promised-fine s list′ {to} {scratch′} hs hl ht hc =
-          let w : v ≡ Fine = sym hu ∙ e in
-          let r = fine-roomy mask T (length list) (length scratch) bytes w in
-          promise (listed.Entries (2 * T .rows + 1)) list′ scratch′ (sym (ap (λ (x : Verdict). answerBy x (entries (T .rows))) w))
-          (hl ∙ ap (λ (x : List ℕ). over list 0 (tabulate (entries (T .rows)) (keptAt (T .rows) x))) hs
-          ∙ ap (over list 0) (sheet-found mask T scratch (r .valid) (r .scratch-fits))
-          ∙ sym (ap (λ (x : Verdict). leftBy x list (sheet (weightBy mask) T)) w))
-          (hc ∙ ap (λ (x : List ℕ). cleared x 0 to) hs ∙ ap (cleared (lengthsIn mask T scratch) 0) ht
-          ∙ clear-work (needed (T .rows)) scratch (lengthsIn mask T scratch) (r .scratch-fits) (lengths-size mask T scratch) (λ i g. lengths-beyond mask T scratch i (omega arith))
-          ∙ ap (λ (m : ℕ). over scratch 0 (replicate m 0)) (sym (needed-value (T .rows)))
-          ∙ sym (ap (λ (x : Verdict). leftBy x scratch (replicate (scratchCells (T .rows)) 0)) w))
+      -- What was found is in the scratch s, from a cell on that is one of those needed.
+      module _ {from : ℕ} {s : List ℕ} (told : (from ≡ leadsFrom (T .rows)) × Finding (leadsFrom (T .rows)) mask T scratch s) where
+        found : FoundAt (leadsFrom (T .rows)) mask T scratch s
+        found =
+            let r = fine-roomy mask T (length list) (length scratch) bytes (sym hu ∙ e) in
+            told .1 .found (valid-workable T (length scratch) (r .valid) (r .scratch-fits))
+
+        pub fine-from : from ≤ length s
+        fine-from = omega (arith, told .0, from-low (T .rows), found .size, fine-roomy mask T (length list) (length scratch) bytes (sym hu ∙ e) .scratch-fits)
+
+        pub promised-fine : (list′ : List ℕ) {to : ℕ} {scratch′ : List ℕ} → list′ ≡ over list 0 (tabulate (entries (T .rows)) (keptAt from (T .rows) s))
+            → to ≡ needed (T .rows) → scratch′ ≡ cleared s 0 to → Promise v mask T list scratch (listed.Entries (2 * T .rows + 1)) list′ scratch′
+        promised-fine list′ {to} {scratch′} hl ht hc =
+            let w : v ≡ Fine = sym hu ∙ e in
+            let r = fine-roomy mask T (length list) (length scratch) bytes w in
+            promise (listed.Entries (2 * T .rows + 1)) list′ scratch′ (sym (ap (λ (x : Verdict). answerBy x (entries (T .rows))) w))
+            (hl ∙ ap (λ (x : ℕ). over list 0 (tabulate (entries (T .rows)) (keptAt x (T .rows) s))) (told .0)
+            ∙ ap (over list 0) (sheet-found mask T (leadsFrom (T .rows)) s (r .valid) (found .aparts))
+            ∙ sym (ap (λ (x : Verdict). leftBy x list (sheet (weightBy mask) T)) w))
+            (hc ∙ ap (cleared s 0) ht
+            ∙ clear-work (needed (T .rows)) scratch s (r .scratch-fits) (found .size) (found .beyond)
+            ∙ ap (λ (m : ℕ). over scratch 0 (replicate m 0)) (sym (needed-value (T .rows)))
+            ∙ sym (ap (λ (x : Verdict). leftBy x scratch (replicate (scratchCells (T .rows)) 0)) w))

@@ -1,59 +1,17 @@
--- What the code's tests tell of one row: whether another comes before it, its least distance from those that do, when it goes.
+-- What the code's tests tell of one row: when it goes.
 use mathlib.Core.Path.{_≡_, refl, sym, ap, _∙_}
-use mathlib.Core.Bool.{Bool, true, false}
 use mathlib.Core.List.{List}
-use Prim.Native.Nat.{ℕ, zero, suc, _+_, _-_, _≤_, _<_, min}
+use Prim.Native.Nat.{ℕ, zero, suc, _+_, _-_, _*_, _<_}
 use native.Mathlib.Omega.{arith}
-use lib.Dec.{ltb}
-use borrow.Author.Tests.{lt-ltb, le-ltb, eq-eqb, ne-eqb}
+use lib.ListN.{getD}
+use borrow.Author.Tests.{eq-eqb, ne-eqb}
 use Rattle.automata.specs.Runs.{Len, len, endless}
 use Rattle.tables.specs.Lengths.{oneLess}
-use Rattle.pairs.specs.Pairs.{pairAt, leadAt}
 use Rattle.scratch.specs.Scratch.{lenCell}
 use Rattle.lengths.specs.Lengths.{lenOf}
 use Rattle.lengths.proofs.Cells.{cell-endless, cell-finite}
 use Rattle.levels.specs.Levels.{till}
-use Rattle.offsets.specs.Steps.{aheadAt, nearer, apartAt, goesAt}
-
--- Which of two rows comes first, by their leads.
-module _ (n : ℕ) (s : List ℕ) (q p : ℕ) {own other : ℕ} (hq : own ≡ leadAt s n q) (hp : other ≡ leadAt s n p) where
-  pub ahead-deeper : own < other → true ≡ aheadAt n s q p
-  unfolding aheadAt
-  ahead-deeper h = rw (← hq, ← hp, lt-ltb own other h)
-
-  pub ahead-shallower : other < own → false ≡ aheadAt n s q p
-  unfolding aheadAt
-  ahead-shallower h = rw (← hq, ← hp, le-ltb own other (omega arith), ne-eqb other own (λ e. omega arith))
-
-  pub ahead-equal : other ≤ own → own ≤ other → ltb p q ≡ aheadAt n s q p
-  unfolding aheadAt
-  ahead-equal h g = rw (← hq, ← hp, le-ltb own other h, eq-eqb other own (omega arith))
-
--- The lesser of a distance and that of p, if p comes before q.
-module _ (n : ℕ) (s : List ℕ) (q p : ℕ) {a : Bool} (ha : a ≡ aheadAt n s q p) (least : ℕ) where
-  pub nearer-not : a ≡ false → least ≡ nearer n s q p least
-  nearer-not e = rw (← ha, e)
-
-  module _ (e : a ≡ true) {d : ℕ} (hd : d ≡ pairAt s q p) where
-    is-min : nearer n s q p least ≡ min least d
-    is-min = rw (← ha, e, ← hd)
-
-    pub nearer-less : d < least → d ≡ nearer n s q p least
-    nearer-less h = omega (arith, is-min)
-
-    pub nearer-more : least ≤ d → least ≡ nearer n s q p least
-    nearer-more h = omega (arith, is-min)
-
--- The least of the distances so far.
-pub apart-none : (n : ℕ) (s : List ℕ) (q : ℕ) → 65535 ≡ apartAt n s q 0
-unfolding apartAt
-apart-none n s q = refl
-
-pub apart-next : (n : ℕ) (s : List ℕ) (q p : ℕ) {least r : ℕ} → least ≡ apartAt n s q p → r ≡ nearer n s q p least → r ≡ apartAt n s q (p + 1)
-unfolding apartAt
-apart-next n s q p h e =
-    let next : suc p ≡ p + 1 = omega arith in
-    e ∙ ap (nearer n s q p) h ∙ ap (apartAt n s q) next
+use Rattle.offsets.specs.Steps.{goesAt}
 
 -- The first offset at which a row is not kept.
 pub gone-at-once : (least : ℕ) (d : Len) → least ≡ 0 → 0 ≡ lenCell (till (lenOf least) d)
@@ -81,11 +39,16 @@ module _ (least lead : ℕ) (some : ¬ (least ≡ 0)) (finite : ¬ (least ≡ 65
       pick (suc x) h = omega arith
 
 -- That of a row in scratch.
-module _ (n : ℕ) (s : List ℕ) (q : ℕ) {lead : ℕ} (h : lead ≡ leadAt s n q) where
-  pub goes-unreached : lead ≡ 0 → 0 ≡ goesAt n s q
-  unfolding goesAt
-  goes-unreached e = rw (← h, eq-eqb lead 0 e)
+module _ (from n : ℕ) (s : List ℕ) (q : ℕ) {row lead : ℕ} (r : row ≡ q) (h : lead ≡ getD s (from + row) 0) where
+  lead-is : lead ≡ getD s (from + q) 0
+  lead-is = h ∙ ap (λ (x : ℕ). getD s (from + x) 0) r
 
-  pub goes-reached : ¬ (lead ≡ 0) → (least : ℕ) {r : ℕ} → r ≡ lenCell (till (lenOf least) (oneLess (lenOf lead))) → least ≡ apartAt n s q n → r ≡ goesAt n s q
+  pub goes-unreached : lead ≡ 0 → 0 ≡ goesAt from n s q
   unfolding goesAt
-  goes-reached e least {r} hr ha = hr ∙ ap (λ (x : ℕ). lenCell (till (lenOf x) (oneLess (lenOf lead)))) ha ∙ sym (rw (← h, ne-eqb lead 0 e))
+  goes-unreached e = rw (← lead-is, eq-eqb lead 0 e)
+
+  pub goes-reached : (lead ≡ 0 → ⊥) → (least : ℕ) {u wide : ℕ} → u ≡ lenCell (till (lenOf least) (oneLess (lenOf lead))) → wide ≡ n → least ≡ getD s (from + 2 * wide + row) 0 → u ≡ goesAt from n s q
+  unfolding goesAt
+  goes-reached e least hu hw ha =
+      let at : least ≡ getD s (from + 2 * n + q) 0 = ha ∙ ap (λ (x : ℕ). getD s (from + 2 * x + row) 0) hw ∙ ap (λ (x : ℕ). getD s (from + 2 * n + x) 0) r in
+      hu ∙ ap (λ (x : ℕ). lenCell (till (lenOf x) (oneLess (lenOf lead)))) at ∙ sym (rw (← lead-is, ne-eqb lead 0 e))

@@ -20,9 +20,9 @@ use Rattle.offsets.specs.Steps.{goesAt, goneAt, keptAt, counted, leftOf,
 -- ---- rows that go
 
 -- Of the first m rows, it has been counted in the first `many` places of l how many go at each offset.
-pub record Tallied (n : ℕ) (s : List ℕ) (many : ℕ) (l₀ l : List ℕ) (m : ℕ) : Type 0 where
+pub record Tallied (from n : ℕ) (s : List ℕ) (many : ℕ) (l₀ l : List ℕ) (m : ℕ) : Type 0 where
   pub size : length l ≡ length l₀
-  pub here : (k : ℕ) → k < many → getD l k 0 ≡ goneAt n s m k
+  pub here : (k : ℕ) → k < many → getD l k 0 ≡ goneAt from n s m k
   pub beyond : (k : ℕ) → many ≤ k → getD l k 0 ≡ getD l₀ k 0
 
 -- One more is counted, or nothing is.
@@ -32,8 +32,8 @@ counted-yes l many at h = sym (rw (lt-ltb at many h) refl)
 pub counted-no : (l : List ℕ) (many at : ℕ) → many ≤ at → l ≡ counted l many at
 counted-no l many at h = sym (rw (le-ltb at many h) refl)
 
-module _ (n : ℕ) (s : List ℕ) (many : ℕ) (l₀ : List ℕ) (room : many ≤ length l₀) where
-  pub tallied-none : {l : List ℕ} → l ≡ cleared l₀ 0 many → Tallied n s many l₀ l 0
+module _ (from n : ℕ) (s : List ℕ) (many : ℕ) (l₀ : List ℕ) (room : many ≤ length l₀) where
+  pub tallied-none : {l : List ℕ} → l ≡ cleared l₀ 0 many → Tallied from n s many l₀ l 0
   unfolding count
   tallied-none e =
       let z : List ℕ = replicate many 0 in
@@ -51,37 +51,37 @@ module _ (n : ℕ) (s : List ℕ) (many : ℕ) (l₀ : List ℕ) (room : many �
           let g : 0 + k ≡ k = omega arith in
           subst (λ (x : ℕ). getD (over l₀ 0 z) x 0 ≡ getD z k 0) g (over-inside l₀ 0 z fits k 0 h)
 
-  module _ {l : List ℕ} {m : ℕ} (t : Tallied n s many l₀ l m) where
+  module _ {l : List ℕ} {m : ℕ} (t : Tallied from n s many l₀ l m) where
     -- A count is at most the number of rows seen.
     pub tallied-small : (at : ℕ) → at < many → getD l at 0 ≤ m
-    tallied-small at h = omega (arith, t .here at h, count-bound (λ q. eqb (goesAt n s q) at) m)
+    tallied-small at h = omega (arith, t .here at h, count-bound (λ q. eqb (goesAt from n s q) at) m)
 
-    pub tallied-next : {l′ : List ℕ} {at : ℕ} → at ≡ goesAt n s m → l′ ≡ counted l many at → Tallied n s many l₀ l′ (suc m)
+    pub tallied-next : {l′ : List ℕ} {at : ℕ} → at ≡ goesAt from n s m → l′ ≡ counted l many at → Tallied from n s many l₀ l′ (suc m)
     tallied-next {l′} {at} ha e = elim (decLt at many) [
       | yes h ↦ (let w : l′ ≡ set l at (getD l at 0 + 1) = e ∙ sym (counted-yes l many at h) in record {
         size = ap length w ∙ length-set l at (getD l at 0 + 1) ∙ t .size;
         here = λ k g. ap (λ (x : List ℕ). getD x k 0) w ∙ elim (ℕ-discrete k at) [
           | yes i ↦ ap (λ (x : ℕ). getD (set l at (getD l at 0 + 1)) x 0) i ∙ getD-set-same l at (getD l at 0 + 1) 0 (omega (arith, t .size))
-              ∙ ap (λ (x : ℕ). getD l x 0 + 1) (sym i) ∙ one k g (eq-eqb (goesAt n s m) k (sym ha ∙ sym i))
-          | no i ↦ getD-set-other l at k (getD l at 0 + 1) 0 i ∙ other k g (ne-eqb (goesAt n s m) k (λ j. i (sym j ∙ sym ha)))
+              ∙ ap (λ (x : ℕ). getD l x 0 + 1) (sym i) ∙ one k g (eq-eqb (goesAt from n s m) k (sym ha ∙ sym i))
+          | no i ↦ getD-set-other l at k (getD l at 0 + 1) 0 i ∙ other k g (ne-eqb (goesAt from n s m) k (λ j. i (sym j ∙ sym ha)))
         ];
         beyond = λ k g. ap (λ (x : List ℕ). getD x k 0) w ∙ getD-set-other l at k (getD l at 0 + 1) 0 (λ i. omega arith) ∙ t .beyond k g;
       })
       | no h ↦ (let w : l′ ≡ l = e ∙ sym (counted-no l many at (omega arith)) in record {
         size = ap length w ∙ t .size;
-        here = λ k g. ap (λ (x : List ℕ). getD x k 0) w ∙ other k g (ne-eqb (goesAt n s m) k (λ j. omega arith));
+        here = λ k g. ap (λ (x : List ℕ). getD x k 0) w ∙ other k g (ne-eqb (goesAt from n s m) k (λ j. omega arith));
         beyond = λ k g. ap (λ (x : List ℕ). getD x k 0) w ∙ t .beyond k g;
       })
     ]
       where
-        one : (k : ℕ) → k < many → eqb (goesAt n s m) k ≡ true → getD l k 0 + 1 ≡ goneAt n s (suc m) k
-        one k g u = omega (arith, t .here k g, count-next (λ q. eqb (goesAt n s q) k) m, ap bit u)
+        one : (k : ℕ) → k < many → eqb (goesAt from n s m) k ≡ true → getD l k 0 + 1 ≡ goneAt from n s (suc m) k
+        one k g u = omega (arith, t .here k g, count-next (λ q. eqb (goesAt from n s q) k) m, ap bit u)
 
-        other : (k : ℕ) → k < many → eqb (goesAt n s m) k ≡ false → getD l k 0 ≡ goneAt n s (suc m) k
-        other k g u = omega (arith, t .here k g, count-next (λ q. eqb (goesAt n s q) k) m, ap bit u)
+        other : (k : ℕ) → k < many → eqb (goesAt from n s m) k ≡ false → getD l k 0 ≡ goneAt from n s (suc m) k
+        other k g u = omega (arith, t .here k g, count-next (λ q. eqb (goesAt from n s q) k) m, ap bit u)
 
-  pub tallied-all : {l : List ℕ} {m : ℕ} → Tallied n s many l₀ l m → m ≡ n → l ≡ over l₀ 0 (tabulate many (goneAt n s n))
-  tallied-all {l} {m} t e = front-tabulate l₀ l many (goneAt n s n) (t .size) room (λ k h. t .here k h ∙ ap (λ (x : ℕ). goneAt n s x k) e) (t .beyond)
+  pub tallied-all : {l : List ℕ} {m : ℕ} → Tallied from n s many l₀ l m → m ≡ n → l ≡ over l₀ 0 (tabulate many (goneAt from n s n))
+  tallied-all {l} {m} t e = front-tabulate l₀ l many (goneAt from n s n) (t .size) room (λ k h. t .here k h ∙ ap (λ (x : ℕ). goneAt from n s x k) e) (t .beyond)
 
 -- ---- rows that are left
 
@@ -123,29 +123,29 @@ module _ {n many : ℕ} {l₀ : List ℕ} (e : Enough n many l₀) {l : List ℕ
 
 -- ---- both: what is left at an offset are the rows that are kept there
 
-module _ (n : ℕ) (s : List ℕ) (many : ℕ) (l : List ℕ) (room : many ≤ length l) where
+module _ (from n : ℕ) (s : List ℕ) (many : ℕ) (l : List ℕ) (room : many ≤ length l) where
   abbrev gone : List ℕ
-  gone = over l 0 (tabulate many (goneAt n s n))
+  gone = over l 0 (tabulate many (goneAt from n s n))
 
   gone-size : length gone ≡ length l
-  gone-size = over-length l 0 (tabulate many (goneAt n s n)) (omega (arith, tabulate-length many (goneAt n s n)))
+  gone-size = over-length l 0 (tabulate many (goneAt from n s n)) (omega (arith, tabulate-length many (goneAt from n s n)))
 
   -- Those that go at k or later.
-  left-is : (k : ℕ) → k ≤ many → leftOf n gone k ≡ count (λ q. leb k (goesAt n s q)) n
+  left-is : (k : ℕ) → k ≤ many → leftOf n gone k ≡ count (λ q. leb k (goesAt from n s q)) n
   unfolding leftOf
-  left-is zero h = sym (count-all (λ q. leb 0 (goesAt n s q)) n (λ q g. le-leb 0 (goesAt n s q) (omega arith)))
-  left-is (suc k) h = omega (arith, left-is k (omega arith), front-at l many (goneAt n s n) room k h, count-split (goesAt n s) k n)
+  left-is zero h = sym (count-all (λ q. leb 0 (goesAt from n s q)) n (λ q g. le-leb 0 (goesAt from n s q) (omega arith)))
+  left-is (suc k) h = omega (arith, left-is k (omega arith), front-at l many (goneAt from n s n) room k h, count-split (goesAt from n s) k n)
 
-  pub gone-enough : Enough n many gone
-  gone-enough = record {
+  pub gone-enough : {l₁ : List ℕ} → l₁ ≡ gone → Enough n many l₁
+  gone-enough e = subst (Enough n many) (sym e) (record {
     within = omega (arith, gone-size);
-    enough = λ k h. omega (arith, left-is k (omega arith), front-at l many (goneAt n s n) room k h, count-split (goesAt n s) k n);
-  }
+    enough = λ k h. omega (arith, left-is k (omega arith), front-at l many (goneAt from n s n) room k h, count-split (goesAt from n s) k n);
+  })
 
-  pub both : {l₁ l₂ : List ℕ} → l₁ ≡ gone → l₂ ≡ over l₁ 0 (tabulate many (λ k. leftOf n l₁ (k + 1))) → l₂ ≡ over l 0 (tabulate many (keptAt n s))
+  pub both : {l₁ l₂ : List ℕ} → l₁ ≡ gone → l₂ ≡ over l₁ 0 (tabulate many (λ k. leftOf n l₁ (k + 1))) → l₂ ≡ over l 0 (tabulate many (keptAt from n s))
   both {l₁} {l₂} e₁ e₂ =
-      let a : List ℕ = tabulate many (goneAt n s n) in
+      let a : List ℕ = tabulate many (goneAt from n s n) in
       let b : List ℕ = tabulate many (λ k. leftOf n gone (k + 1)) in
       e₂ ∙ ap (λ (x : List ℕ). over x 0 (tabulate many (λ k. leftOf n x (k + 1)))) e₁
-      ∙ over-again l 0 a (omega (arith, tabulate-length many (goneAt n s n))) b (omega (arith, tabulate-length many (goneAt n s n), tabulate-length many (λ k. leftOf n gone (k + 1))))
-      ∙ ap (over l 0) (tabulate-same many (λ k. leftOf n gone (k + 1)) (keptAt n s) (λ k h. (let next : k + 1 ≡ suc k = omega arith in ap (leftOf n gone) next ∙ left-is (suc k) h)))
+      ∙ over-again l 0 a (omega (arith, tabulate-length many (goneAt from n s n))) b (omega (arith, tabulate-length many (goneAt from n s n), tabulate-length many (λ k. leftOf n gone (k + 1))))
+      ∙ ap (over l 0) (tabulate-same many (λ k. leftOf n gone (k + 1)) (keptAt from n s) (λ k h. (let next : k + 1 ≡ suc k = omega arith in ap (leftOf n gone) next ∙ left-is (suc k) h)))

@@ -1,38 +1,22 @@
 -- What the sheet of all offsets promises.
 use mathlib.Core.Path.{_≡_}
-use mathlib.Core.List.{List, [], _∷_, _++_}
-use Prim.Native.Nat.{ℕ, suc, _+_, _-_, _*_, _≤_, _<_}
-use lib.Dec.{ltb}
+use mathlib.Core.List.{List}
+use Prim.Native.Nat.{ℕ, suc, _-_, _≤_, _<_}
 use lib.ListN.{getD, replicate}
 use Rattle.tables.specs.Lists.{tabulate}
 use Rattle.tables.specs.Table.{Table, offset, none, Valid, Agrees, weightBy}
 use Rattle.tables.specs.Reduction.{reduced}
-use Rattle.rules.specs.Rules.{rule, judged, leftBy, winch, roomRule, maskedChecks}
+use Rattle.rules.specs.Rules.{leftBy}
 use Rattle.rules.specs.declared.Verdict.{Verdict}
 use Rattle.rules.specs.declared.Verdict.the-variants.{Fine, Refused}
 use Rattle.scratch.specs.Scratch.{scratchCells}
+use Rattle.sheet_rules.specs.Checks.{entries}
 use Rattle.offsets.specs.declared.Listed.{Listed}
 use Rattle.offsets.specs.declared.Listed.the-variants as listed
-
--- How many offsets there are from 0 to 2 × rows.
-abbrev pub entries : ℕ → ℕ
-entries rows = 2 * rows + 1
 
 -- "The least row count at every offset from 0 to 2 × rows": each is that of the offset's reduction.
 unfoldable pub sheet : (ℕ → ℕ) → Table → List ℕ
 sheet weight T = tabulate (entries (T .rows)) (λ k. reduced weight (offset k) T .rows)
-
--- 13: "the lent list has fewer than 2 × rows + 1 entries".
-abbrev pub listRule : ℕ → ℕ → Verdict
-listRule rows list = rule 13 (ltb list (entries rows)) 0
-
--- Rule 7 for the scratch, and 13.
-abbrev pub roomChecks : ℕ → ℕ → ℕ → List Verdict
-roomChecks rows list scratch = roomRule (scratchCells rows) scratch ∷ listRule rows list ∷ []
-
--- Rules 1 to 6, 16, 7, then 13; the first rule broken, if one is. The lent list and the scratch have so many entries and cells.
-unfoldable pub verdict : ℕ → Table → ℕ → ℕ → Verdict
-verdict mask T list scratch = judged (maskedChecks winch mask T ++ roomChecks (T .rows) list scratch)
 
 -- The answer: how many entries were written, or the refusal.
 abbrev pub answerBy : Verdict → ℕ → Listed

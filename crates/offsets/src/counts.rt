@@ -1,61 +1,17 @@
-// How many rows are kept at each offset, found in a scratch that holds the distances and the leads.
+// How many rows are kept at each offset, found in a scratch that holds the leads of the rows and how far they are from those before them.
 ghost use mathlib.Core.Path.{_≡_};
 ghost use Prim.Native.Nat.{_+_, _*_, _≤_, _<_};
 ghost use lib.ListN.{length, getD};
 ghost use Rattle.tables.specs.Lengths.{oneLess};
 ghost use Rattle.tables.specs.Lists.{tabulate, over};
-ghost use Rattle.row_starts.specs.RowStarts.{rowStarts};
 ghost use Rattle.scratch.specs.Scratch.{lenCell};
 ghost use Rattle.lengths.specs.Lengths.{lenOf};
 ghost use Rattle.levels.specs.Levels.{till};
-ghost use Rattle.offsets.specs.Sheet.{entries};
-ghost use Rattle.offsets.specs.Steps.{aheadAt, nearer as nearerOf, apartAt, goesAt, goneAt, keptAt, counted, leftOf, Enough};
+ghost use Rattle.sheet_rules.specs.Checks.{entries};
+ghost use Rattle.offsets.specs.Steps.{goesAt, goneAt, keptAt, counted, leftOf, Enough};
 
 // A length that has no end.
 const ENDLESS: u16 = 65535;
-
-// Whether row p comes before row q in the order: it is deeper, or as deep and its number is lower.
-fn ahead(scratch: &[u16], rows: u16, q: u16, p: u16) -> bool
-    ensures { λ r. ⌜ r ≡ aheadAt rows (now (scratch .entry)) q p ⌝ }
-{
-    let own = lengths::lead(scratch, rows, q);
-    let other = lengths::lead(scratch, rows, p);
-    if own < other {
-        return true;
-    }
-    if other < own {
-        return false;
-    }
-    p < q
-}
-
-// The lesser of a distance and that of rows q and p, if p comes before q.
-fn nearer(starts: &[u32], scratch: &[u16], rows: u16, q: u16, p: u16, least: u16) -> u16
-    requires { ⌜ now starts ≡ rowStarts ⌝ }
-    ensures { λ r. ⌜ r ≡ nearerOf rows (now (scratch .entry)) q p least ⌝ }
-{
-    if ahead(scratch, rows, q, p) {
-        let distance = pairs::pair(starts, scratch, q, p);
-        if distance < least {
-            return distance;
-        }
-    }
-    least
-}
-
-// The least distance of a row from one that comes before it.
-fn apart(scratch: &[u16], rows: u16, q: u16) -> u16
-    ensures { λ r. ⌜ r ≡ apartAt rows (now (scratch .entry)) q rows ⌝ }
-{
-    let starts = row_starts::table();
-    let mut least = ENDLESS;
-    let mut p = 0;
-    while p < rows {
-        least = nearer(&starts, scratch, rows, q, p, least);
-        p += 1;
-    }
-    least
-}
 
 // The first offset at which a reached row is not kept, by its least distance from those before it and its lead.
 fn first_gone(least: u16, lead: u16) -> usize
@@ -74,15 +30,18 @@ fn first_gone(least: u16, lead: u16) -> usize
     rules::wide(least) + rules::wide(lead) - 1
 }
 
-// The same of any row; an unreached one is kept at no offset.
-fn goes_at(scratch: &[u16], rows: u16, q: u16) -> usize
-    ensures { λ r. ⌜ r ≡ goesAt rows (now (scratch .entry)) q ⌝ }
+// The same of any row, where the leads stand from a cell on; an unreached one is kept at no offset.
+fn goes_at(scratch: &[u16], from: usize, rows: u16, q: u16) -> usize
+    requires { ⌜ from ≤ length (now scratch) ⌝ }
+    ensures { λ r. ⌜ r ≡ goesAt from rows (now (scratch .entry)) q ⌝ }
 {
-    let lead = lengths::lead(scratch, rows, q);
+    let row = rules::wide(q);
+    let lead = scratch::cell(scratch, from + row);
     if lead == 0 {
         return 0;
     }
-    first_gone(apart(scratch, rows, q), lead)
+    let least = scratch::cell(scratch, from + 2 * rules::wide(rows) + row);
+    first_gone(least, lead)
 }
 
 // Counts one more at a place, if that is one of the first `count`.
@@ -96,14 +55,14 @@ fn count_one(list: &mut [u16], count: usize, at: usize)
 }
 
 // Counts in the first `count` places how many rows go at each offset.
-fn tally(scratch: &[u16], rows: u16, list: &mut [u16], count: usize)
-    requires { ⌜ count ≤ length (now list) ⌝ }
-    ensures { λ _. ⌜ now (list .exit) ≡ over (now (list .entry)) 0 (tabulate count (goneAt rows (now (scratch .entry)) rows)) ⌝ }
+fn tally(scratch: &[u16], from: usize, rows: u16, list: &mut [u16], count: usize)
+    requires { ⌜ (count ≤ length (now list)) × (from ≤ length (now scratch)) ⌝ }
+    ensures { λ _. ⌜ now (list .exit) ≡ over (now (list .entry)) 0 (tabulate count (goneAt from rows (now (scratch .entry)) rows)) ⌝ }
 {
     scratch::clear(list, 0, count);
     let mut q = 0;
     while q < rows {
-        count_one(list, count, goes_at(scratch, rows, q));
+        count_one(list, count, goes_at(scratch, from, rows, q));
         q += 1;
     }
 }
@@ -123,11 +82,11 @@ fn settle(list: &mut [u16], rows: u16, count: usize)
 }
 
 // Writes how many rows are kept at each offset from 0 to twice the rows.
-pub(crate) fn fill(scratch: &[u16], rows: u16, list: &mut [u16])
-    requires { ⌜ entries rows ≤ length (now list) ⌝ }
-    ensures { λ _. ⌜ now (list .exit) ≡ over (now (list .entry)) 0 (tabulate (entries rows) (keptAt rows (now (scratch .entry)))) ⌝ }
+pub(crate) fn fill(scratch: &[u16], from: usize, rows: u16, list: &mut [u16])
+    requires { ⌜ (entries rows ≤ length (now list)) × (from ≤ length (now scratch)) ⌝ }
+    ensures { λ _. ⌜ now (list .exit) ≡ over (now (list .entry)) 0 (tabulate (entries rows) (keptAt from rows (now (scratch .entry)))) ⌝ }
 {
     let count = 2 * rules::wide(rows) + 1;
-    tally(scratch, rows, list, count);
+    tally(scratch, from, rows, list, count);
     settle(list, rows, count);
 }

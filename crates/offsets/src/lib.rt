@@ -1,8 +1,9 @@
 // The fewest rows at every offset, on one sheet.
 ghost use mathlib.Core.Path.{_≡_};
 ghost use lib.ListN.{length};
-ghost use Rattle.rules.specs.Rules.{tableOf, judged};
-ghost use Rattle.offsets.specs.Sheet.{roomChecks, verdict, Promise};
+ghost use Rattle.rules.specs.Rules.{tableOf};
+ghost use Rattle.sheet_rules.specs.Checks.{verdict};
+ghost use Rattle.offsets.specs.Sheet.{Promise};
 
 mod counts;
 
@@ -10,38 +11,6 @@ mod counts;
 pub enum Listed {
     Entries(usize),
     Refused(usize, usize),
-}
-
-// Rule 7 for the scratch, then 13 for the list, for a table of so many rows.
-fn check_room(rows: u16, list: usize, scratch: usize) -> rules::Verdict
-    ensures { λ r. ⌜ r ≡ judged (roomChecks rows list scratch) ⌝ }
-{
-    if scratch < pairs::needed(rows) {
-        return rules::Verdict::Refused(7, 0);
-    }
-    if list < 2 * rules::wide(rows) + 1 {
-        return rules::Verdict::Refused(13, 0);
-    }
-    rules::Verdict::Fine
-}
-
-// Rules 1 to 6, 16, 7, then 13.
-fn check(
-    mask: u32,
-    rows: usize,
-    events: usize,
-    start: usize,
-    cells: &[u16],
-    marks: &[u8],
-    list: usize,
-    scratch: usize,
-) -> rules::Verdict
-    ensures { λ r. ⌜ r ≡ verdict mask (tableOf rows events start (now (cells .entry)) (now (marks .entry))) list scratch ⌝ }
-{
-    match rules::check_masked(rules::winch(), mask, rows, events, start, cells, marks) {
-        rules::Verdict::Refused(number, place) => rules::Verdict::Refused(number, place),
-        rules::Verdict::Fine => check_room(rows as u16, list, scratch),
-    }
 }
 
 // Lists the fewest rows of a table at every offset from 0 to twice its rows, where a mask says which events count.
@@ -59,7 +28,7 @@ pub fn write_sheet(
         let l = now (list .entry) in let s = now (scratch .entry) in
         Promise (verdict mask T (length l) (length s)) mask T l s r (now (list .exit)) (now (scratch .exit))) ⌝ }
 {
-    match check(
+    match sheet_rules::check(
         mask,
         rows,
         events,
@@ -71,9 +40,9 @@ pub fn write_sheet(
     ) {
         rules::Verdict::Refused(number, place) => Listed::Refused(number, place),
         rules::Verdict::Fine => {
-            lengths::find_lengths(mask, rows, events, start, cells, marks, scratch);
+            let from = apart::find_apart(mask, rows, events, start, cells, marks, scratch);
             let n = rows as u16;
-            counts::fill(scratch, n, list);
+            counts::fill(scratch, from, n, list);
             scratch::clear(scratch, 0, pairs::needed(n));
             Listed::Entries(2 * rows + 1)
         }

@@ -3,3 +3,4 @@ pub mod Cells
 pub mod RowStarts
 pub mod Pairs
 pub mod Works
+pub mod Figures

@@ -324,6 +324,7 @@ module _ {T : Table} (mask : ℕ) {k L i j u : ℕ} {s : List ℕ} (v : Fits T k
                       g .behind x (omega arith) ∙ w .above x (omega arith) ∙ same-behind (12 * n) t₂ t₁ (d .frame .behind) x h
                       ∙ a .behind x (omega (arith, bounds .0, bounds .1, bounds .2));
                 };
+            noted = λ x h l. g .behind x (omega arith) ∙ w .above x (omega arith) ∙ d .frame .spare x h l ∙ a .behind x (omega (arith, bounds .0, bounds .1, bounds .2));
             swept =
                 record {
                   gone =

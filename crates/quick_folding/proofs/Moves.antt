@@ -9,7 +9,7 @@ use lib.ListN.{length, getD, drop, set, length-set}
 use lib.Seq.{getD-drop, getD-set-same, getD-set-other}
 use Rattle.scratch.proofs.Numbers.{eq-or-ne}
 use Rattle.splitting.specs.Places.{nxtAt}
-use Rattle.quick_folding.specs.Parts.{labelAt, listAt, valueAt, needCell, foldAt, Appendable, Appended, Valued, Labels}
+use Rattle.quick_folding.specs.Parts.{labelAt, listAt, valueAt, needCell, foldAt, Appendable, Appended, Wrote, Valued, Labels}
 
 -- A cell behind those that may have changed.
 pub same-behind : (k : ℕ) (t s : List ℕ) → drop k t ≡ drop k s → (i : ℕ) → k ≤ i → getD t i 0 ≡ getD s i 0
@@ -82,22 +82,23 @@ append-next {n} {u} {i} {x} {s} {t} count q w p d l e same =
       behind = λ k h. set2-other t a q b (u + x) k (λ f. omega arith) (λ f. omega arith) ∙ d .behind k (omega arith);
     }
 
-pub valued-none : {n : ℕ} {f : ℕ → ℕ} (s : List ℕ) → Valued n 0 f s s
-valued-none s = record { size = refl; here = λ q h. absurd (omega arith); below = λ k h. refl; above = λ k h. refl }
+-- Values written one by one.
+pub wrote-none : {at : ℕ} {f : ℕ → ℕ} (s : List ℕ) → Wrote at 0 f s s
+wrote-none s = record { size = refl; here = λ q h. absurd (omega arith); below = λ k h. refl; above = λ k h. refl }
 
-pub valued-next : {n q : ℕ} {f : ℕ → ℕ} {s t : List ℕ} (x : ℕ) → 3 * n ≤ length s → q < n → Valued n q f s t → x ≡ f q → Valued n (q + 1) f s (set t (2 * n + q) x)
-valued-next {n} {q} {f} {s} {t} x room h d e =
+pub wrote-next : {at q : ℕ} {f : ℕ → ℕ} {s t : List ℕ} (x : ℕ) → at + q < length s → Wrote at q f s t → x ≡ f q → Wrote at (q + 1) f s (set t (at + q) x)
+wrote-next {at} {q} {f} {s} {t} x h d e =
     let z = d .size in
-    let room : 2 * n + q < length t = omega arith in
+    let room : at + q < length t = omega arith in
     record {
-      size = length-set t (2 * n + q) x ∙ z;
+      size = length-set t (at + q) x ∙ z;
       here = λ p l.
           ⊎-elim
-          (λ g. let k : 2 * n + p ≡ 2 * n + q = omega arith in rw k (getD-set-same t (2 * n + q) x 0 room ∙ e ∙ ap f (sym g)))
-          (λ g. getD-set-other t (2 * n + q) (2 * n + p) x 0 (λ y. g (omega arith)) ∙ d .here p (omega arith))
+          (λ g. let k : at + p ≡ at + q = omega arith in rw k (getD-set-same t (at + q) x 0 room ∙ e ∙ ap f (sym g)))
+          (λ g. getD-set-other t (at + q) (at + p) x 0 (λ y. g (omega arith)) ∙ d .here p (omega arith))
           (eq-or-ne p q);
-      below = λ k l. getD-set-other t (2 * n + q) k x 0 (λ y. omega arith) ∙ d .below k l;
-      above = λ k l. getD-set-other t (2 * n + q) k x 0 (λ y. omega arith) ∙ d .above k (omega arith);
+      below = λ k l. getD-set-other t (at + q) k x 0 (λ y. omega arith) ∙ d .below k l;
+      above = λ k l. getD-set-other t (at + q) k x 0 (λ y. omega arith) ∙ d .above k (omega arith);
     }
 
 -- What `relabel` reads.

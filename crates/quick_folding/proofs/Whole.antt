@@ -1,9 +1,9 @@
 -- From the leads to the order, and from the labels to the rows into which rows fold.
-use mathlib.Core.Path.{_≡_, sym, ap, _∙_}
+use mathlib.Core.Path.{_≡_, sym, ap, subst, _∙_}
 use mathlib.Core.Bool.{Bool, true, false, not, true≢false, false≢true}
 use mathlib.Core.List.{List}
 use mathlib.Core.Logic.{_⊎_, ⊎-elim}
-use Prim.Native.Nat.{ℕ, _*_, _≤_, _<_}
+use Prim.Native.Nat.{ℕ, _+_, _*_, _≤_, _<_}
 use native.Mathlib.Omega.{arith}
 use borrow.Author.Tests.{eqb-false, not-true, not-false}
 use lib.Dec.{eqb}
@@ -23,17 +23,18 @@ use Rattle.scratch.specs.Order.{orderOf}
 use Rattle.scratch.proofs.Works.{within-fine}
 use Rattle.scratch.proofs.Soundness.{within-shape}
 use Rattle.scratch.proofs.Order.{order-meaning}
-use Rattle.levels.specs.Levels.{far}
+use Rattle.levels.specs.Levels.{far, apart}
 use Rattle.levels.proofs.Folds.{fold-far}
 use Rattle.buckets.specs.Buckets as Buckets
 use Rattle.quick_depths.specs.Leads.{Found}
 use Rattle.quick_depths.proofs.Told.{found-small}
-use Rattle.quick_folding.specs.Parts.{foldAt, Valued, Labels}
-use Rattle.quick_folding.specs.State.{Fits, Laid, Folded}
+use Rattle.quick_folding.specs.Parts.{labelAt, foldAt, Valued, Labels}
+use Rattle.quick_folding.specs.State.{Fits, Laid, Apart, Folded}
+use Rattle.quick_folding.specs.Parting.{Aparts, apartAt, Measured}
 use Rattle.quick_folding.proofs.Moves.{same-behind, fold-some}
 
 -- The cell of a lead is 0 just for rows that are not reached.
-cell-reached : (E : Events) (M : Machine) (q : ℕ) → reached E M q ≡ true → lenCell (lead E M q) ≡ 0 → ⊥
+pub cell-reached : (E : Events) (M : Machine) (q : ℕ) → reached E M q ≡ true → lenCell (lead E M q) ≡ 0 → ⊥
 unfolding reached
 cell-reached E M q = pick (lead E M q)
   where
@@ -44,19 +45,19 @@ cell-reached E M q = pick (lead E M q)
 reached-cell : (E : Events) (M : Machine) (q : ℕ) → (lenCell (lead E M q) ≡ 0 → ⊥) → reached E M q ≡ true
 reached-cell E M q ne = ⊎-elim (λ r. r) (λ r. absurd (ne (ap lenCell (lead-unreached E M q r)))) (either (reached E M q))
 
--- What `fold_rows` ensures.
-abbrev Answered : ℕ → Table → Offset → List ℕ → List ℕ → Bool → Type 0
-Answered mask T x s t r =
+-- What a public function ensures, where X is to hold of what it leaves.
+abbrev Answered : Table → Type 0 → List ℕ → List ℕ → Bool → Type 0
+Answered T X s t r =
     (r ≡ workableIn fewCells T (length s))
-    × (r ≡ true → Folds (eventsOf (weightBy mask) T) (machine T) x t)
+    × (r ≡ true → X)
     × (r ≡ false → t ≡ s)
     × (length t ≡ length s)
     × ((i : ℕ) → fewCells (T .rows) ≤ i → getD t i 0 ≡ getD s i 0)
 
 -- What the search for the leads ensures.
 module _ (mask : ℕ) (T : Table) {s t₁ : List ℕ} {r : Bool} (e : r ≡ workableIn fewCells T (length s)) where
-  pub refused : (x : Offset) → (r ≡ false → t₁ ≡ s) → not r ≡ true → Answered mask T x s t₁ false
-  refused x same h =
+  pub refused : {X : Type 0} → (r ≡ false → t₁ ≡ s) → not r ≡ true → Answered T X s t₁ false
+  refused same h =
       let f = not-true r h in
       let z = same f in
       (sym f ∙ e, λ g. absurd (false≢true g), λ g. z, ap length z, λ i l. ap (λ (y : List ℕ). getD y i 0) z)
@@ -117,31 +118,43 @@ module _ (mask : ℕ) (T : Table) {s t₁ : List ℕ} {r : Bool} (e : r ≡ work
       pub sweepable : {k : ℕ} → k ≤ 65535 → Fits T k t₂ × Laid E M 0 t₂ × (count ≡ length (order E M))
       sweepable l = (record { workable = ap (workableIn fewCells T) (o .size ∙ d .kept .size) ∙ w; offset = l }, laid, counted)
 
-      module _ {k : ℕ} {t₃ : List ℕ} (f : Folded E M k t₂ t₃) where
-        lead-is : (q : ℕ) → q < n → leadIn t₃ q ≡ lenCell (lead E M q)
-        lead-is q l = f .apart .leads q l ∙ laid .leads q l
+      -- The sweep has left the leads, and a label for each reached row.
+      module _ {t₃ : List ℕ} (a : Apart n t₂ t₃) (inside : (q : ℕ) → q < n → reached E M q ≡ true → labelAt n t₃ q < n) where
+        pub lead-is : (q : ℕ) → q < n → leadIn t₃ q ≡ lenCell (lead E M q)
+        lead-is q l = a .leads q l ∙ laid .leads q l
 
-        -- What the naming of the folds asks.
+        -- What the naming asks.
         pub labels : Labels n t₃
         labels =
             record {
               few = small;
-              room = omega (arith, f .apart .size, o .size, orderly .room);
-              inside = λ q l ne. f .inside q l (reached-cell E M q (λ z. ne (lead-is q l ∙ z)));
+              room = omega (arith, a .size, o .size, orderly .room);
+              inside = λ q l ne. inside q l (reached-cell E M q (λ z. ne (lead-is q l ∙ z)));
             }
 
-        pub answered : {t₄ : List ℕ} (x : Offset) → k ≡ far n x → Valued n n (foldAt n t₃) t₃ t₄ → Answered mask T x s t₄ true
-        answered {t₄} x at v = (
+        pub answered : {t₄ : List ℕ} {f : ℕ → ℕ} {X : Type 0} → Valued n n f t₃ t₄ → X → Answered T X s t₄ true
+        answered v x = (
           sym w,
-          λ g. record {
-            leads = λ q l. v .below q (omega arith) ∙ lead-is q l;
-            folds = λ q l u.
-                v .here q l
-                ∙ fold-some n t₃ q (λ z. cell-reached E M q u (sym (lead-is q l) ∙ z)) ∙ f .folds q l u
-                ∙ ap (λ (y : ℕ). fold E M (offset y) q) at ∙ sym (ap (λ (y : ℕ → ℕ). y q) (fold-far E M x (shape .some-row)));
-          },
+          λ g. x,
           λ g. absurd (true≢false g),
-          v .size ∙ f .apart .size ∙ o .size ∙ d .kept .size,
+          v .size ∙ a .size ∙ o .size ∙ d .kept .size,
           λ i l.
-              v .above i (omega arith) ∙ f .apart .behind i l ∙ same-behind (7 * n) t₂ t₁ (o .behind) i (omega arith) ∙ d .kept .behind i (omega arith),
+              v .above i (omega arith) ∙ a .behind i l ∙ same-behind (7 * n) t₂ t₁ (o .behind) i (omega arith) ∙ d .kept .behind i (omega arith),
         )
+
+      -- The rows at the labels are the folds.
+      pub folds-named : {k : ℕ} {t₃ t₄ : List ℕ} → Folded E M k t₂ t₃ → (x : Offset) → k ≡ far n x → Valued n n (foldAt n t₃) t₃ t₄ → Folds E M x t₄
+      folds-named {k} {t₃} f x at v = record {
+        leads = λ q l. v .below q (omega arith) ∙ lead-is (f .apart) (f .inside) q l;
+        folds = λ q l u.
+            v .here q l
+            ∙ fold-some n t₃ q (λ z. cell-reached E M q u (sym (lead-is (f .apart) (f .inside) q l) ∙ z)) ∙ f .folds q l u
+            ∙ ap (λ (y : ℕ). fold E M (offset y) q) at ∙ sym (ap (λ (y : ℕ → ℕ). y q) (fold-far E M x (shape .some-row)));
+      }
+
+      -- What was noted are the least distances.
+      pub aparts-named : {t₃ t₄ : List ℕ} → Measured E M t₂ t₃ → Valued n n (apartAt n t₃) t₃ t₄ → Aparts E M 0 t₄
+      aparts-named {t₃} {t₄} f v = record {
+        leads = λ q l. (let g : q ≡ 0 + q = omega arith in subst (λ (x : ℕ). getD t₄ x 0 ≡ lenCell (lead E M q)) g (v .below q (omega arith) ∙ lead-is (f .beside) (f .inside) q l));
+        aparts = λ q l u. (let g : 2 * n + q ≡ 0 + 2 * n + q = omega arith in subst (λ (x : ℕ). getD t₄ x 0 ≡ lenCell (apart E M q)) g (v .here q l ∙ f .cells q l u));
+      }

@@ -53,12 +53,16 @@ pub record Appended (n u i count : ℕ) (s t : List ℕ) : Type 0 where
 
 -- ---- values
 
--- The values of the rows below `count` are those of f, and nothing else has changed.
-pub record Valued (n count : ℕ) (f : ℕ → ℕ) (s t : List ℕ) : Type 0 where
+-- From cell `at` on stand `count` values of f, and nothing else has changed.
+pub record Wrote (at count : ℕ) (f : ℕ → ℕ) (s t : List ℕ) : Type 0 where
   pub size : length t ≡ length s
-  pub here : (q : ℕ) → q < count → valueAt n t q ≡ f q
-  pub below : (k : ℕ) → k < 2 * n → getD t k 0 ≡ getD s k 0
-  pub above : (k : ℕ) → 2 * n + count ≤ k → getD t k 0 ≡ getD s k 0
+  pub here : (q : ℕ) → q < count → getD t (at + q) 0 ≡ f q
+  pub below : (k : ℕ) → k < at → getD t k 0 ≡ getD s k 0
+  pub above : (k : ℕ) → at + count ≤ k → getD t k 0 ≡ getD s k 0
+
+-- The values of the rows below `count` are those of f.
+abbrev pub Valued : ℕ → ℕ → (ℕ → ℕ) → List ℕ → List ℕ → Type 0
+Valued n = Wrote (2 * n)
 
 -- The leader of every place below u is the value of its row.
 abbrev pub Still : ℕ → ℕ → List ℕ → Type 0

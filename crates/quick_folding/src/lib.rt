@@ -12,6 +12,9 @@ ghost use Rattle.splitting.specs.Places.{nxtAt};
 ghost use Rattle.levels.specs.Levels.{far as farOf};
 ghost use Rattle.quick_folding.specs.Parts.{valueAt, listAt, needCell, foldAt, Appendable, Appended, Valued, Still, Renewable, Renewed, Seated, Seating, Takable, Taken, Searching, Until, Onward, Labels};
 ghost use Rattle.quick_folding.specs.State.{Fits, Laid, Apart, Before, After, Going, Folded};
+ghost use Rattle.quick_folding.specs.Parting.{Aparts};
+
+mod parting;
 
 // Moves `count` rows of the list down from place i to place u; each begins with its own place for its value.
 fn append(scratch: &mut [u16], n: usize, u: usize, i: usize, count: usize)
@@ -208,7 +211,8 @@ fn first_level(
         Fits T k (now scratch) × Laid E M 0 (now scratch) × (count ≡ length (order E M))) ⌝ }
     ensures { λ r. ⌜ (let T = tableOf n m start (now (cells .entry)) (now (marks .entry)) in let E = eventsOf (weightBy mask) T in
         Apart n (now (scratch .entry)) (now (scratch .exit))
-        × Going E (machine T) k (r .level) (r .place) (r .kept) (r .rest) (now (scratch .exit))) ⌝ }
+        × Going E (machine T) k (r .level) (r .place) (r .kept) (r .rest) (now (scratch .exit))
+        × (r .level ≡ 0)) ⌝ }
 {
     scratch::clear(scratch, 2 * n, 3 * n);
     let j = until(scratch, n, k, 0, count, 0);
@@ -338,5 +342,32 @@ pub fn fold_rows(
     let k = far(offset, rows);
     fold_all(k, mask, rows, events, start, cells, marks, scratch, count);
     name_folds(scratch, rows);
+    true
+}
+
+// How far each row of a table is from the rows before it, with the weights of events by a mask; answers whether the table is valid and there is room.
+pub fn find_apart(
+    mask: u32,
+    rows: usize,
+    events: usize,
+    start: usize,
+    cells: &[u16],
+    marks: &[u8],
+    scratch: &mut [u16],
+) -> bool
+    ensures { λ r. ⌜ (let T = tableOf rows events start (now (cells .entry)) (now (marks .entry)) in let E = eventsOf (weightBy mask) T in
+        let s = now (scratch .entry) in let t = now (scratch .exit) in
+        (r ≡ workableIn fewCells T (length s))
+        × (r ≡ true → Aparts E (machine T) 0 t)
+        × (r ≡ false → t ≡ s)
+        × (length t ≡ length s)
+        × ((i : ℕ) → fewCells rows ≤ i → getD t i 0 ≡ getD s i 0)) ⌝ }
+{
+    if !quick_depths::depths(mask, rows, events, start, cells, marks, scratch) {
+        return false;
+    }
+    let count = buckets::order(scratch, rows);
+    parting::part_all(mask, rows, events, start, cells, marks, scratch, count);
+    parting::name_apart(scratch, rows);
     true
 }

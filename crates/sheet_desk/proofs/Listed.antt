@@ -15,8 +15,9 @@ use Rattle.rules.specs.declared.Verdict.the-variants.{Fine, Refused}
 use Rattle.pairs.proofs.Triangle.{needed-value, triangle-le, triangle-square}
 use Rattle.offsets.specs.declared.Listed.{Listed}
 use Rattle.offsets.specs.declared.Listed.the-variants as listed
-use Rattle.offsets.specs.Sheet.{entries, verdict, answerBy, Promise}
-use Rattle.offsets.proofs.Room.{by-mask}
+use Rattle.sheet_rules.specs.Checks.{entries, verdict}
+use Rattle.offsets.specs.Sheet.{answerBy, Promise}
+use Rattle.sheet_rules.proofs.Room.{by-mask}
 use Rattle.text.proofs.Buffer.{joined-same}
 use Rattle.image_text.specs.ImageText.{textBy, maskedText}
 use Rattle.text.specs.Text.{text, joined}

@@ -16,7 +16,7 @@ use Rattle.lines.proofs.Short.{pair-short, head-short}
 use Rattle.image_text.specs.ImageText.{maskAt, maskedText}
 use Rattle.image_text.proofs.Short.{Inside}
 use Rattle.image_text.proofs.Front.{input-short, masked-short}
-use Rattle.offsets.specs.Sheet.{entries}
+use Rattle.sheet_rules.specs.Checks.{entries}
 use Rattle.sheet_desk.specs.Printed.{noneLine, sheetLines, sheetText, printed}
 
 -- A sheet has 257 offsets at most.

@@ -4,7 +4,7 @@ use Prim.Native.Nat.{ℕ}
 use Rattle.tables.specs.Table.{Table, offset, none, weightBy}
 use Rattle.tables.specs.Reduction.{reduced}
 use Rattle.weights.specs.Weights.{counted}
-use Rattle.offsets.specs.Sheet.{entries}
+use Rattle.sheet_rules.specs.Checks.{entries}
 use Rattle.text.specs.Text.{text, decimal, joined}
 use Rattle.lines.specs.Lines.{pairLine, headLine}
 use Rattle.image_text.specs.ImageText.{maskAt, maskedText, inputText}

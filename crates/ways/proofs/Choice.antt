@@ -13,10 +13,10 @@ use Rattle.pairs.specs.Pairs.{needed, workable}
 use Rattle.scratch.specs.Scratch.{scratchCells, fewCells, fine, workableIn}
 use Rattle.scratch.specs.Folds.{Folds}
 use Rattle.pairs.proofs.Triangle.{needed-value}
+use Rattle.pairs.proofs.Figures.{few-fit, same-works}
 use Rattle.folding.specs.Folding.{foldedIn}
 use Rattle.folding.proofs.FoldedIn.{folded-not}
 use Rattle.ways.specs.Ways.{FoldedBy, Folding}
-use Rattle.ways.proofs.Needs.{few-fit, same-works}
 
 -- The figure as the document has it, and as the triangle has it.
 figures : (T : Table) (room : ℕ) → workableIn scratchCells T room ≡ workable T room

@@ -1,6 +1,6 @@
 use native.Mathlib.Omega.{arith}
 use Rattle.rules.specs.Rules.{tableOf}
-use Rattle.offsets.proofs.Promised.{promised-refused, fine-rows, fine-list, promised-fine}
+use Rattle.offsets.proofs.Promised.{promised-refused, fine-rows, fine-list, fine-from, promised-fine}
 use borrow.Author.Needs.{needs}
 use Rattle.offsets.proofs.write_sheet.Statement.{statement}
 use Rattle.offsets.proofs.write_sheet.Tie as tie
@@ -13,7 +13,10 @@ cast-n c =
 fill-requires : tie.Need-fill-requires
 fill-requires c κs =
     let a = c .before .before .before .before .before .before .before .before .before .before .before .before .before .args in
-    omega (arith, fine-list (a .mask) (tableOf (a .rows) (a .events) (a .start) (a .cells .now) (a .marks .now)) (λ i. omega (arith, c .before .before .before .before .before .before .before .before .before .before .before .shared-slice-known2 .given i)) (a .list .now) (a .scratch .now) (c .before .before .before .before .before .before .before .before .check .ensures) (c .before .before .before .before .before .before .enum-told .given .1))
+    let T = tableOf (a .rows) (a .events) (a .start) (a .cells .now) (a .marks .now) in
+    let e = c .before .before .before .before .before .before .enum-told .given .1 in
+    let u = c .before .before .before .before .before .before .before .before .check .ensures in
+    (omega (arith, fine-list (a .mask) T (λ i. omega (arith, c .before .before .before .before .before .before .before .before .before .before .before .shared-slice-known2 .given i)) (a .list .now) (a .scratch .now) u e), fine-from (a .mask) T (λ i. omega (arith, c .before .before .before .before .before .before .before .before .before .before .before .shared-slice-known2 .given i)) (a .list .now) (a .scratch .now) u e (c .before .before .before .before .find-apart .ensures))
 
 mul-t26 : tie.Need-mul-t26
 mul-t26 c =
@@ -33,9 +36,8 @@ returns c =
 returns-2 : tie.Need-returns-2
 returns-2 c =
     let a = c .before .before .before .before .before .before .before .before .before .before .before .before .before .before .before .before .before .before .before .before .before .args in
-    let f = c .before .before .before .before .before .before .before .before .before .before .before .before .find-lengths in
     let l = c .before .before .before .before .before .before .before .fill in
-    promised-fine (a .mask) (tableOf (a .rows) (a .events) (a .start) (a .cells .now) (a .marks .now)) (λ i. omega (arith, c .before .before .before .before .before .before .before .before .before .before .before .before .before .before .before .before .before .before .before .shared-slice-known2 .given i)) (a .list .now) (a .scratch .now) (c .before .before .before .before .before .before .before .before .before .before .before .before .before .before .before .before .check .ensures) (c .before .before .before .before .before .before .before .before .before .before .before .before .before .before .enum-told .given .1) (f .last .1 .1 .1 .1 .1 .1 .0) (l .last .1 .1 .0) (f .ensures .1) (l .ensures) (c .before .before .before .needed .ensures) (c .before .before .clear .ensures)
+    promised-fine (a .mask) (tableOf (a .rows) (a .events) (a .start) (a .cells .now) (a .marks .now)) (λ i. omega (arith, c .before .before .before .before .before .before .before .before .before .before .before .before .before .before .before .before .before .before .before .shared-slice-known2 .given i)) (a .list .now) (a .scratch .now) (c .before .before .before .before .before .before .before .before .before .before .before .before .before .before .before .before .check .ensures) (c .before .before .before .before .before .before .before .before .before .before .before .before .before .before .enum-told .given .1) (c .before .before .before .before .before .before .before .before .before .before .before .before .find-apart .ensures) (l .last .1 .1 .1 .0) (l .ensures) (c .before .before .before .needed .ensures) (c .before .before .clear .ensures)
 
 pub write-sheet-spec : {M : Type 1} → statement M
 write-sheet-spec =

@@ -1,3 +1,4 @@
+use mathlib.Core.Path.{refl}
 use Rattle.quick_folding.proofs.Entering.{shape}
 use Rattle.quick_folding.proofs.Ending.{searching, clear-laid, clear-fits, before-first, first-made}
 use native.Mathlib.Omega.{arith}
@@ -30,7 +31,8 @@ returns c =
     let a = c .before .before .before .before .before .before .before .before .before .before .before .before .before .args in
     let p = c .before .before .before .before .before .before .before .before .before .before .before .before .before .pre in
     let e = c .before .before .before .before .before .before .before .before .clear .ensures in
-    first-made (a .mask) (p .0) (p .1) e (c .before .before .any-level .ensures)
+    let m = first-made (a .mask) (p .0) (p .1) e (c .before .before .any-level .ensures) in
+    (m .0, m .1, refl)
 
 pub first-level-spec : {M : Type 1} → statement M
 first-level-spec =

@@ -1,7 +1,7 @@
 use Prim.Native.Nat.{ℕ, _-_, _≤_}
 use mathlib.Core.Path.{_≡_, subst, _∙_}
 use Rattle.quick_folding.specs.Parts.{foldAt, Valued}
-use Rattle.quick_folding.proofs.Moves.{valued-none, valued-next, labels-still, fold-still}
+use Rattle.quick_folding.proofs.Moves.{wrote-none, wrote-next, labels-still, fold-still}
 use native.Mathlib.Omega.{arith}
 use Rattle.quick_folding.proofs.name_folds.Statement.{statement}
 use Rattle.quick_folding.proofs.name_folds.Tie as tie
@@ -13,7 +13,7 @@ abbrev μ-loop : tie.MeasureT-loop
 μ-loop scratch₀ n q₀ scratch q = n - q
 
 loop-holds : tie.Need-loop-holds Inv-loop μ-loop
-loop-holds c = (omega arith, valued-none (c .before .args .scratch .now))
+loop-holds c = (omega arith, wrote-none (c .before .args .scratch .now))
 
 fold-of-requires : tie.Need-fold-of-requires Inv-loop μ-loop
 fold-of-requires c κs = (labels-still (c .before .before .before .before .pre) (c .before .before .loop .inv .1), c .before .loop-test .taken)
@@ -26,7 +26,7 @@ loop-again c =
     let p = c .before .before .before .before .before .pre in
     let l = c .before .before .before .loop in
     let h = c .before .before .loop-test .taken in
-    (omega arith, valued-next _ (omega (arith, p .room)) h (l .inv .1) (c .fold-of .ensures ∙ fold-still p (l .inv .1) (l .q) h (l .inv .0)))
+    (omega arith, wrote-next _ (omega (arith, p .room)) (l .inv .1) (c .fold-of .ensures ∙ fold-still p (l .inv .1) (l .q) h (l .inv .0)))
 
 same-length : tie.Need-same-length Inv-loop μ-loop
 same-length c = c .before .loop .inv .1 .size

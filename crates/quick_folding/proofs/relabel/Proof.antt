@@ -2,7 +2,7 @@ use Prim.Native.Nat.{ℕ, _-_, _≤_}
 use mathlib.Core.Path.{_≡_, subst}
 use Rattle.splitting.specs.Places.{nxtAt}
 use Rattle.quick_folding.specs.Parts.{valueAt, Valued}
-use Rattle.quick_folding.proofs.Moves.{valued-none, valued-next, relabel-read}
+use Rattle.quick_folding.proofs.Moves.{wrote-none, wrote-next, relabel-read}
 use native.Mathlib.Omega.{arith}
 use Rattle.quick_folding.proofs.relabel.Statement.{statement}
 use Rattle.quick_folding.proofs.relabel.Tie as tie
@@ -14,7 +14,7 @@ abbrev μ-loop : tie.MeasureT-loop
 μ-loop scratch₀ n q₀ scratch q = n - q
 
 loop-holds : tie.Need-loop-holds Inv-loop μ-loop
-loop-holds c = (omega arith, valued-none (c .before .args .scratch .now))
+loop-holds c = (omega arith, wrote-none (c .before .args .scratch .now))
 
 slice-read-wide : tie.Need-slice-read-wide Inv-loop μ-loop
 slice-read-wide c = omega (arith, c .before .before .loop .inv .1 .size)
@@ -32,7 +32,7 @@ slice-write-scratch : tie.Need-slice-write-scratch Inv-loop μ-loop
 slice-write-scratch c = omega (arith, c .before .before .before .before .loop .inv .1 .size)
 
 loop-again : tie.Need-loop-again Inv-loop μ-loop
-loop-again c = (omega arith, valued-next _ (omega (arith, c .before .before .before .before .before .before .pre .room)) (c .before .before .before .loop-test .taken) (c .before .before .before .before .loop .inv .1) (relabel-read _ (c .before .before .before .before .loop .inv .1) (c .before .before .before .loop-test .taken) (c .before .before .before .before .before .before .pre .values) (c .before .wide .ensures) .0))
+loop-again c = (omega arith, wrote-next _ (omega (arith, c .before .before .before .before .before .before .pre .room)) (c .before .before .before .before .loop .inv .1) (relabel-read _ (c .before .before .before .before .loop .inv .1) (c .before .before .before .loop-test .taken) (c .before .before .before .before .before .before .pre .values) (c .before .wide .ensures) .0))
 
 same-length : tie.Need-same-length Inv-loop μ-loop
 same-length c = c .before .loop .inv .1 .size

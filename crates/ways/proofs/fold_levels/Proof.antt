@@ -3,7 +3,7 @@ use lib.ListN.{length}
 use Rattle.rules.specs.Rules.{tableOf, offsetOf}
 use Rattle.scratch.specs.Scratch.{scratchCells}
 use Rattle.pairs.proofs.Triangle.{needed-value}
-use Rattle.ways.proofs.Needs.{many-rows, short-room}
+use Rattle.pairs.proofs.Figures.{many-rows, short-room}
 use Rattle.ways.proofs.Choice.{not-folded, levels-done}
 use native.Mathlib.Omega.{arith}
 use borrow.Author.Needs.{needs}

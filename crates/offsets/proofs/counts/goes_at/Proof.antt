@@ -5,19 +5,27 @@ use Rattle.offsets.proofs.counts.goes_at.Statement.{statement}
 use Rattle.offsets.proofs.counts.goes_at.Tie as tie
 
 returns : tie.Need-returns
-returns c = let a = c .before .before .before .args in goes-unreached (a .rows) (a .scratch .now) (a .q) (c .before .lead .ensures) (c .if1 .taken)
+returns c =
+    let a = c .before .before .before .before .args in
+    goes-unreached (a .from) (a .rows) (a .scratch .now) (a .q) (c .before .before .wide .ensures) (c .before .cell .ensures) (c .if1 .taken)
 
 returns-2 : tie.Need-returns-2
 returns-2 c =
-    let a = c .before .before .before .before .before .args in
-    goes-reached (a .rows) (a .scratch .now) (a .q) (c .before .before .before .lead .ensures) (c .before .before .if1 .left) (c .before .apart .result) (c .first-gone .ensures) (c .before .apart .ensures)
+    let a = c .before .before .before .before .before .before .before .args in
+    goes-reached (a .from) (a .rows) (a .scratch .now) (a .q) (c .before .before .before .before .before .wide .ensures) (c .before .before .before .before .cell .ensures) (c .before .before .before .if1 .left) (c .before .cell2 .result) (c .first-gone .ensures) (c .before .before .wide2 .ensures) (c .before .cell2 .ensures)
 
 pub goes-at-spec : {M : Type 1} → statement M
 goes-at-spec =
     tie.close
     (tie.spec
     (λ c κs. search needs)
+    (λ c. search needs)
+    (λ c κs. search needs)
     returns
     (λ c κs. search needs)
-    (λ c κs. omega (arith, c .before .if1 .left))
+    (λ c. search needs)
+    (λ c. search needs)
+    (λ c. search needs)
+    (λ c κs. search needs)
+    (λ c κs. omega (arith, c .before .before .if1 .left))
     returns-2)

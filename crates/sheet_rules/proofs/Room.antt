@@ -17,7 +17,7 @@ use Rattle.rules.proofs.First.{room-broken, room-kept, table-refused, table-the
 use Rattle.pairs.specs.Pairs.{needed}
 use Rattle.scratch.specs.Scratch.{scratchCells}
 use Rattle.pairs.proofs.Triangle.{needed-value}
-use Rattle.offsets.specs.Sheet.{entries, roomChecks, verdict}
+use Rattle.sheet_rules.specs.Checks.{entries, roomChecks, verdict}
 
 -- The checks stop at the first buffer that is short.
 module _ (rows list scratch : ℕ) where

@@ -2,10 +2,10 @@ use native.Mathlib.Omega.{arith}
 use mathlib.Core.List.{[], _∷_}
 use Rattle.rules.specs.Rules.{maskRule, tableOf}
 use Rattle.rules.proofs.First.{few-rows}
-use Rattle.offsets.proofs.Room.{verdict-refused, verdict-room}
+use Rattle.sheet_rules.proofs.Room.{verdict-refused, verdict-room}
 use borrow.Author.Needs.{needs}
-use Rattle.offsets.proofs.check.Statement.{statement}
-use Rattle.offsets.proofs.check.Tie as tie
+use Rattle.sheet_rules.proofs.check.Statement.{statement}
+use Rattle.sheet_rules.proofs.check.Tie as tie
 
 cast-check-room : tie.Need-cast-check-room
 cast-check-room c =

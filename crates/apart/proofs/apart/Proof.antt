@@ -1,11 +1,11 @@
 use mathlib.Core.Path.{_≡_, ap, _∙_}
 use Prim.Native.Nat.{_-_, _≤_}
 use native.Mathlib.Omega.{arith}
-use Rattle.offsets.specs.Steps.{apartAt}
-use Rattle.offsets.proofs.Rows.{apart-none, apart-next}
+use Rattle.apart.specs.Steps.{apartAt}
+use Rattle.apart.proofs.Rows.{apart-none, apart-next}
 use borrow.Author.Needs.{needs}
-use Rattle.offsets.proofs.counts.apart.Statement.{statement}
-use Rattle.offsets.proofs.counts.apart.Tie as tie
+use Rattle.apart.proofs.apart.Statement.{statement}
+use Rattle.apart.proofs.apart.Tie as tie
 
 abbrev Inv-loop : tie.InvT-loop
 Inv-loop scratch rows q starts least₀ p₀ least p = (p ≤ rows) × (least ≡ apartAt rows scratch q p)

@@ -1,7 +1,7 @@
-use Rattle.offsets.proofs.Rows.{ahead-deeper, ahead-shallower, ahead-equal}
+use Rattle.apart.proofs.Rows.{ahead-deeper, ahead-shallower, ahead-equal}
 use borrow.Author.Needs.{needs}
-use Rattle.offsets.proofs.counts.ahead.Statement.{statement}
-use Rattle.offsets.proofs.counts.ahead.Tie as tie
+use Rattle.apart.proofs.ahead.Statement.{statement}
+use Rattle.apart.proofs.ahead.Tie as tie
 
 returns : tie.Need-returns
 returns c = let a = c .before .before .before .before .args in ahead-deeper (a .rows) (a .scratch .now) (a .q) (a .p) (c .before .before .lead .ensures) (c .before .lead2 .ensures) (c .if1 .taken)

@@ -1,8 +1,8 @@
 use Rattle.pairs.proofs.RowStarts.{pair-right}
-use Rattle.offsets.proofs.Rows.{nearer-not, nearer-less, nearer-more}
+use Rattle.apart.proofs.Rows.{nearer-not, nearer-less, nearer-more}
 use borrow.Author.Needs.{needs}
-use Rattle.offsets.proofs.counts.nearer.Statement.{statement}
-use Rattle.offsets.proofs.counts.nearer.Tie as tie
+use Rattle.apart.proofs.nearer.Statement.{statement}
+use Rattle.apart.proofs.nearer.Tie as tie
 
 returns : tie.Need-returns
 returns c = let a = c .before .before .before .before .before .before .args in nearer-less (a .rows) (a .scratch .now) (a .q) (a .p) (c .before .before .before .ahead .ensures) (a .least) (c .before .before .if1 .taken) (pair-right _ _ _ _ (c .before .before .before .before .before .before .pre) (c .before .pair .ensures)) (c .if2 .taken)

@@ -1,8 +1,8 @@
 use native.Mathlib.Omega.{arith}
-use Rattle.offsets.proofs.Room.{short-scratch, short-list, all-fits}
+use Rattle.sheet_rules.proofs.Room.{short-scratch, short-list, all-fits}
 use borrow.Author.Needs.{needs}
-use Rattle.offsets.proofs.check_room.Statement.{statement}
-use Rattle.offsets.proofs.check_room.Tie as tie
+use Rattle.sheet_rules.proofs.check_room.Statement.{statement}
+use Rattle.sheet_rules.proofs.check_room.Tie as tie
 
 returns : tie.Need-returns
 returns c = let a = c .before .before .args in short-scratch (a .rows) (a .list) (a .scratch) (omega (arith, c .if1 .taken, c .before .needed .ensures))
