@@ -10,7 +10,9 @@ use Rattle.scratch.proofs.Numbers.{eq-or-ne}
 use Rattle.splitting.specs.Places.{nxtAt, keyAt, jumpAt, tabAt}
 use Rattle.leaders.specs.Leaders.{rowAt, valueAt, stampAt, targetAt, Changed, Old, Settled, slotOf, Entry, hashIn, Same, Sizes, InHand, Begun, Kept, Joins}
 use Rattle.leaders.specs.Steps.{JoiningIn, Seeded}
-use Rattle.leaders.proofs.Signatures.{hand-still, hash-same, same-same, same-from, old-to}
+use Rattle.leaders.proofs.Regions.{kept-front}
+use Rattle.leaders.proofs.After.{known-none}
+use Rattle.leaders.proofs.Signatures.{row-same, hand-still, hash-same, same-same, same-from, old-to}
 
 module _ (mask n m u to known last : ℕ) (cells : List ℕ) {s t : List ℕ} (sizes : Sizes n m to known s) (fit : u ≤ to) (b : Begun mask n m to known last cells s) (d : Seeded n known to s t) where
   same-cell : (x : ℕ) → (x < 4 * n + known) ⊎ (5 * n ≤ x) → getD t x 0 ≡ getD s x 0
@@ -103,3 +105,35 @@ module _ (mask n m u to known last : ℕ) (cells : List ℕ) {s t : List ℕ} (s
 -- Nothing changed at a level above all 16-bit numbers.
 pub calm-above : (n m last from : ℕ) (cells t : List ℕ) → 65535 < last → ((x : ℕ) → getD t x 0 ≤ 65535) → (c : ℕ) → c < from → Changed n m cells t last (rowAt n t c) → ⊥
 calm-above n m last from cells t h small c l e = omega (arith, e .2, small (5 * n + targetAt m cells (rowAt n t c) (e .0)))
+
+-- ---- begun once more, with nothing known, after only the working regions have changed
+module _ {n m to : ℕ} {cells s t : List ℕ} (fit : to ≤ n) (hand : InHand n m to cells s) (k : Kept n s t) where
+  own-same : (c : ℕ) → c < to → valueAt n t (rowAt n t c) ≡ valueAt n s (rowAt n s c)
+  own-same c h =
+      let r = hand .rows c h in
+      ap (valueAt n t) (row-same hand k fit c h) ∙ kept-front k (2 * n + rowAt n s c) (omega arith)
+
+  pub begun-anew : {mask known last : ℕ} → Begun mask n m to known last cells s → Begun mask n m to 0 last cells t
+  begun-anew b =
+      record {
+        hand = hand-still hand k fit;
+        low = λ c h. omega (arith, own-same c h, b .low c h);
+        past = known-none;
+      }
+
+  pub joins-before : {mask u lost : ℕ} {w : List ℕ} → u ≤ to → Joins mask n m u to cells t w lost → Joins mask n m u to cells s w lost
+  joins-before {mask} {u} {lost} {w} past j =
+      record {
+        down = j .down;
+        others = λ c h ne. j .others c h (λ e. ne (sym (own-same c h) ∙ e));
+        leads = λ c h e. j .leads c h (own-same c h ∙ e);
+        signed = λ c h e. let d = j .down c h in same-same hand k fit mask c (nxtAt n w c) h (omega arith) (j .signed c h (own-same c h ∙ e));
+        table =
+            record {
+              keys = λ c h l g. j .table .keys c h l g ∙ hash-same hand k fit mask c h;
+              entries = λ c h l g. j .table .entries c h l g;
+              lone = λ c e hc he lc le gc ge same. j .table .lone c e hc he lc le gc ge (same-from hand k fit mask c e hc he same);
+            };
+        listed = λ c h e ne. j .listed c h (own-same c (omega arith) ∙ e) ne;
+        losers = λ x h. let r = j .losers x h in (r .0, sym (own-same (jumpAt n w x) (omega (arith, r .0))) ∙ r .1, r .2);
+      }

@@ -3,3 +3,4 @@ pub mod Signatures
 pub mod Table
 pub mod Turns
 pub mod Begin
+pub mod After

@@ -37,6 +37,10 @@ kept-set {n} s k x from until aside =
 pub sizes-still : {n m to known : ℕ} {s t : List ℕ} → Sizes n m to known s → length t ≡ length s → Sizes n m to known t
 sizes-still z e = record { few = z .few; room = omega (arith, z .room); events = z .events; inside = z .inside; past = z .past }
 
+-- With nothing known.
+pub sizes-anew : {n m to known : ℕ} {s t : List ℕ} → Sizes n m to known s → Kept n s t → Sizes n m to 0 t
+sizes-anew z k = record { few = z .few; room = omega (arith, z .room, k .frame .size); events = z .events; inside = z .inside; past = omega arith }
+
 -- Leaders of the places from `known` on, one by one.
 pub seeded-none : {n known : ℕ} {s : List ℕ} → Seeded n known known s s
 seeded-none = record { kept = kept-none; here = λ c h l r. absurd (omega arith); others = λ x h. refl }

@@ -30,7 +30,7 @@ mixed-same mask n m cells s t q p a x y h e = pick (eqb (weightBy mask a) 1) ref
     pick true w = ap₂ (λ (u : ℕ) (v : ℕ). (u + v + 1) * 739982445 % 4294967296) e (h (eqb-true (weightBy mask a) 1 w))
     pick false w = e
 
-to-same : (mask n m : ℕ) (cells s t : List ℕ) (q p k : ℕ) → ((a : ℕ) → a < k → weightBy mask a ≡ 1 → classAt n m cells s q a ≡ classAt n m cells t p a)
+pub to-same : (mask n m : ℕ) (cells s t : List ℕ) (q p k : ℕ) → ((a : ℕ) → a < k → weightBy mask a ≡ 1 → classAt n m cells s q a ≡ classAt n m cells t p a)
     → mixedTo mask n m cells s q k ≡ mixedTo mask n m cells t p k
 unfolding mixedTo
 to-same mask n m cells s t q p zero h = refl

@@ -24,8 +24,9 @@ use Rattle.levels.proofs.Order.{at-row, at-reached, place-of}
 use Rattle.levels.proofs.Borders.{placed-closed, border, border-jump}
 use Rattle.levels.proofs.Kept.{kept-start, kept-few}
 use Rattle.levels.proofs.Sweep.{led-none, led-rest}
-use Rattle.quick_folding.specs.Parts.{labelAt, valueAt, listAt, needCell, Searching, Until, Onward}
-use Rattle.quick_folding.specs.State.{Fits, Laid, Apart, Before, After, Going, Folded}
+use Rattle.quick_folding.specs.Parts.{labelAt, valueAt, listAt, needCell, Searching, Until, Onward, Staying, StaysAt}
+use Rattle.quick_folding.specs.State.{Fits, Stays, Laid, Apart, Before, After, Going, Folded}
+use Rattle.quick_folding.proofs.Whole.{cell-reached}
 use Rattle.quick_folding.proofs.Entering.{order-short, shape, sound, room, fits-still}
 
 pub apart-none : {n : ℕ} {s : List ℕ} → Apart n s s
@@ -111,6 +112,9 @@ module _ {T : Table} (mask : ℕ) {k : ℕ} {s : List ℕ} (f : Fits T k s) wher
       next-most : H ≤ needAt E M k (rowAt E M i)
       next-most = ⊎-elim (λ t. omega (arith, t .1)) (λ t. omega (arith, t .1, need-above)) next-is
 
+      pub next-fits : H ≤ 65535
+      next-fits = omega (arith, next-most, need-high k (depth E M (rowAt E M i)), f .offset)
+
       last-led : Led E M k (H - 1) i (valueAt n s)
       last-led = ⊎-elim
           (λ t. led-rest (sound f mask) (mask-light mask T) k L (H - 1) i (valueAt n s) (omega (arith, next-above))
@@ -177,6 +181,24 @@ module _ {T : Table} (mask : ℕ) {k : ℕ} {s t : List ℕ} (f : Fits T k s) (l
   pub first-made : {j u : ℕ} {rest : Bool} {w : List ℕ} → After (eventsOf (weightBy mask) T) (machine T) k 0 j t w u rest
       → Apart (T .rows) s w × Going (eventsOf (weightBy mask) T) (machine T) k 0 j u false w
   first-made a = (apart-then clear-apart (a .apart), record { swept = a .swept; rests = λ z. absurd (false≢true z) })
+
+-- ---- where the sweep stands, by the numbers that say so
+pub before-at : {E : Events} {M : Machine} {k j i u : ℕ} {s : List ℕ} → i ≡ 0 → u ≡ 0 → Before E M k 0 0 j 0 s → Before E M k 0 i j u s
+before-at {E} {M} {k} {j} {i} {u} {s} ie ue b = subst (λ (x : ℕ). Before E M k 0 x j u s) (sym ie) (subst (λ (x : ℕ). Before E M k 0 0 j x s) (sym ue) b)
+
+pub going-at : {E : Events} {M : Machine} {k L L′ i i′ u u′ : ℕ} {rest rest′ : Bool} {s : List ℕ} → L′ ≡ L → i′ ≡ i → u′ ≡ u → rest′ ≡ rest → Going E M k L i u rest s → Going E M k L′ i′ u′ rest′ s
+going-at {E} {M} {k} {L} {L′} {i} {i′} {u} {u′} {rest} {rest′} {s} le ie ue re g =
+    subst (λ (x : ℕ). Going E M k x i′ u′ rest′ s) (sym le) (subst (λ (x : ℕ). Going E M k L x u′ rest′ s) (sym ie)
+    (subst (λ (x : ℕ). Going E M k L i x rest′ s) (sym ue) (subst (λ (x : Bool). Going E M k L i u x s) (sym re) g)))
+
+-- ---- whether idle events stay
+pub staying : {T : Table} {k : ℕ} {s : List ℕ} → Fits T k s → Staying (T .rows) (T .events) (T .cells) s
+staying f = record { few = shape f .rows-fit; events = shape f .events-fit; leads = omega (arith, room f); all-cells = omega (arith, shape f .all-cells) }
+
+pub stays-of : (T : Table) (mask : ℕ) {s : List ℕ} → Laid (eventsOf (weightBy mask) T) (machine T) 0 s → ((a : ℕ) → a < T .events → StaysAt mask (T .rows) (T .events) (T .cells) s a)
+    → Stays (eventsOf (weightBy mask) T) (machine T)
+stays-of T mask {s} l h =
+    record { stays = λ q a hq r ha w. h a ha (λ e. omega arith) q hq (λ z. cell-reached (eventsOf (weightBy mask) T) (machine T) q r (sym (l .leads q hq) ∙ z)) }
 
 -- ---- the end
 pub folded : {E : Events} {M : Machine} {k L i u : ℕ} {rest : Bool} {s t : List ℕ} → Apart (M .rows) s t → Going E M k L i u rest t → length (order E M) ≤ i → Folded E M k s t

@@ -1,7 +1,7 @@
 -- Rows moved down the list, values written one by one, the level that a row needs, and the row into which it folds.
 use mathlib.Core.Path.{_≡_, refl, sym, ap, subst, _∙_}
 use mathlib.Core.List.{List}
-use mathlib.Core.Logic.{⊎-elim}
+use mathlib.Core.Logic.{inl, inr, ⊎-elim}
 use Prim.Native.Nat.{ℕ, suc, _+_, _-_, _*_, _≤_, _<_}
 use native.Mathlib.Omega.{arith}
 use borrow.Author.Tests.{eq-eqb, ne-eqb}
@@ -9,7 +9,7 @@ use lib.ListN.{length, getD, drop, set, length-set}
 use lib.Seq.{getD-drop, getD-set-same, getD-set-other}
 use Rattle.scratch.proofs.Numbers.{eq-or-ne}
 use Rattle.splitting.specs.Places.{nxtAt}
-use Rattle.quick_folding.specs.Parts.{labelAt, listAt, valueAt, needCell, foldAt, Appendable, Appended, Wrote, Valued, Labels}
+use Rattle.quick_folding.specs.Parts.{labelAt, listAt, valueAt, needCell, foldAt, Appendable, Appended, Wrote, Valued, Labels, stampAt, Relabelled, stayed, changed, Passed}
 
 -- A cell behind those that may have changed.
 pub same-behind : (k : ℕ) (t s : List ℕ) → drop k t ≡ drop k s → (i : ℕ) → k ≤ i → getD t i 0 ≡ getD s i 0
@@ -101,12 +101,66 @@ wrote-next {at} {q} {f} {s} {t} x h d e =
       above = λ k l. getD-set-other t (at + q) k x 0 (λ y. omega arith) ∙ d .above k (omega arith);
     }
 
--- What `relabel` reads.
-pub relabel-read : {n q : ℕ} {s t : List ℕ} (w : ℕ) → Valued n q (λ p. nxtAt n s (valueAt n s p)) s t → q < n → ((p : ℕ) → p < n → valueAt n s p < n) → w ≡ getD t (2 * n + q) 0
-    → (getD t (4 * n + w) 0 ≡ nxtAt n s (valueAt n s q)) × (w < n)
-relabel-read {n} {q} {s} {t} w d h low e =
-    let j : w ≡ valueAt n s q = e ∙ d .above (2 * n + q) (omega arith) in
-    (ap (λ (x : ℕ). getD t (4 * n + x) 0) j ∙ d .above (4 * n + valueAt n s q) (omega arith), omega (arith, low q h))
+-- ---- each value becomes its leader, one by one
+pub passed-none : {n level : ℕ} (s : List ℕ) → Passed n level 0 s s
+passed-none s = record { size = refl; below = λ k h. refl; between = λ k h l. refl; above = λ k h. refl; here = λ q h. absurd (omega arith); noted = λ q h. absurd (omega arith) }
+
+module _ {n level q : ℕ} {s t : List ℕ} (h : q < n) (d : Passed n level q s t) where
+  -- What is read of row q.
+  pub value-still : valueAt n t q ≡ valueAt n s q
+  value-still = d .between (2 * n + q) (omega arith) (omega arith)
+
+  next-still : valueAt n s q < n → nxtAt n t (valueAt n t q) ≡ nxtAt n s (valueAt n s q)
+  next-still l = ap (nxtAt n t) value-still ∙ d .between (4 * n + valueAt n s q) (omega arith) (omega arith)
+
+  pub passed-next : {w : List ℕ} → 6 * n ≤ length s → valueAt n s q < n → Relabelled n level q t w → Passed n level (q + 1) s w
+  passed-next {w} room l (stayed e te) =
+      record {
+        size = ap length te ∙ d .size;
+        below = λ k g. cell k ∙ d .below k g;
+        between = λ k g b. cell k ∙ d .between k (omega arith) b;
+        above = λ k g. cell k ∙ d .above k g;
+        here = λ p g. ⊎-elim (λ z. cell (2 * n + p) ∙ ap (valueAt n t) z ∙ sym e ∙ next-still l ∙ ap (λ (x : ℕ). nxtAt n s (valueAt n s x)) (sym z)) (λ ne. cell (2 * n + p) ∙ d .here p (omega arith)) (eq-or-ne p q);
+        noted = λ p g. ⊎-elim (λ z. inl (cell (2 * n + p) ∙ ap (valueAt n t) z ∙ value-still ∙ ap (valueAt n s) (sym z)))
+            (λ ne. ⊎-elim (λ y. inl (cell (2 * n + p) ∙ y)) (λ y. inr (cell (5 * n + p) ∙ y)) (d .noted p (omega arith))) (eq-or-ne p q);
+      }
+    where
+      cell : (k : ℕ) → getD w k 0 ≡ getD t k 0
+      cell k = ap (λ (x : List ℕ). getD x k 0) te
+  passed-next {w} room l (changed te) =
+      record {
+        size = ap length te ∙ set2-size t a v b level ∙ d .size;
+        below = λ k g. other k (λ e. omega arith) (λ e. omega arith) ∙ d .below k g;
+        between = λ k g c. other k (λ e. omega arith) (λ e. omega arith) ∙ d .between k (omega arith) c;
+        above = λ k g. other k (λ e. omega arith) (λ e. omega arith) ∙ d .above k g;
+        here = λ p g. ⊎-elim (λ z. here p z ∙ next-still l ∙ ap (λ (x : ℕ). nxtAt n s (valueAt n s x)) (sym z))
+            (λ ne. other (2 * n + p) (λ e. ne (omega arith)) (λ e. omega arith) ∙ d .here p (omega arith)) (eq-or-ne p q);
+        noted = λ p g. ⊎-elim (λ z. inr (stamp p z))
+            (λ ne. ⊎-elim (λ y. inl (other (2 * n + p) (λ e. ne (omega arith)) (λ e. omega arith) ∙ y)) (λ y. inr (other (5 * n + p) (λ e. omega arith) (λ e. ne (omega arith)) ∙ y)) (d .noted p (omega arith)))
+            (eq-or-ne p q);
+      }
+    where
+      a : ℕ
+      a = 2 * n + q
+
+      b : ℕ
+      b = 5 * n + q
+
+      v : ℕ
+      v = nxtAt n t (valueAt n t q)
+
+      other : (k : ℕ) → (k ≡ 2 * n + q → ⊥) → (k ≡ 5 * n + q → ⊥) → getD w k 0 ≡ getD t k 0
+      other k x y = ap (λ (z : List ℕ). getD z k 0) te ∙ set2-other t a v b level k x y
+
+      here : (p : ℕ) → p ≡ q → valueAt n w p ≡ v
+      here p z =
+          let e : 2 * n + p ≡ a = ap (λ (x : ℕ). 2 * n + x) z in
+          ap (λ (y : List ℕ). getD y (2 * n + p) 0) te ∙ ap (λ (x : ℕ). getD (set (set t a v) b level) x 0) e ∙ set2-first t a v b level (omega (arith, d .size)) (λ y. omega arith)
+
+      stamp : (p : ℕ) → p ≡ q → stampAt n w p ≡ level
+      stamp p z =
+          let e : 5 * n + p ≡ b = ap (λ (x : ℕ). 5 * n + x) z in
+          ap (λ (y : List ℕ). getD y (5 * n + p) 0) te ∙ ap (λ (x : ℕ). getD (set (set t a v) b level) x 0) e ∙ set2-second t a v b level (omega (arith, d .size))
 
 -- ---- the level that a row needs
 pub need-endless : (k c : ℕ) → c ≡ 65535 → needCell k c ≡ 0

@@ -10,8 +10,8 @@ use native.Mathlib.Numerals.{add-one}
 use borrow.Author.Tests.{lt-ltb, le-ltb, eq-eqb, ne-eqb}
 use lib.ListN.{length, getD, set}
 use Rattle.scratch.proofs.Numbers.{eq-or-ne}
-use Rattle.splitting.specs.Places.{nxtAt, jumpAt, Canon}
-use Rattle.quick_folding.specs.Parts.{listAt, seats, seatOf, Seated, leading, following, joining, Seating, Takable, Taken}
+use Rattle.splitting.specs.Places.{nxtAt, jumpAt}
+use Rattle.quick_folding.specs.Parts.{listAt, seats, seatOf, Seated, leading, following, joining, Seating, Takable, Taken, Follows}
 use Rattle.quick_folding.proofs.Moves.{set2-size, set2-other, set2-first, set2-second}
 
 -- ---- the places behind the kept rows
@@ -59,12 +59,12 @@ module _ (f : ℕ → ℕ) (u : ℕ) where
   seat-new c h = rw (le-ltb (f c) u h)
 
   -- A leader's place, as one of the new ones.
-  pub leader-new : (to d : ℕ) → Canon to f → u + d < to → u ≤ f (u + d) → (x : ℕ) × (x ≤ d) × (f (u + d) ≡ u + x) × (f (u + x) ≡ u + x)
+  pub leader-new : (to d : ℕ) → Follows u to f → u + d < to → u ≤ f (u + d) → (x : ℕ) × (x ≤ d) × (f (u + d) ≡ u + x) × (f (u + x) ≡ u + x)
   leader-new to d c h g =
       let e : f (u + d) ≡ u + (f (u + d) - u) = omega arith in
-      (f (u + d) - u, omega (arith, c .down (u + d) h), e, subst (λ (y : ℕ). f y ≡ y) e (c .leads (u + d) h))
+      (f (u + d) - u, omega (arith, c .down (u + d) h), e, subst (λ (y : ℕ). f y ≡ y) e (c .leads (u + d) (omega arith) h))
 
-  pub seat-in : (to d : ℕ) → Canon to f → u + d < to → seatOf f u (u + d) < seats f u (d + 1)
+  pub seat-in : (to d : ℕ) → Follows u to f → u + d < to → seatOf f u (u + d) < seats f u (d + 1)
   seat-in to d c h = elim (decLt (f (u + d)) u) [
     | yes g ↦ omega (arith, seat-old (u + d) g, seats-low (d + 1))
     | no g ↦
@@ -118,7 +118,7 @@ module _ {n u more d count : ℕ} {s t : List ℕ} (p : Takable n u more s) (k :
         room = omega (arith, p .room, k .size);
         place = b;
         down = count-high;
-        leader = omega (arith, leader-is, p .canon .down (u + d) (omega arith));
+        leader = omega (arith, leader-is, p .follows .down (u + d) (omega arith));
       }
 
   -- Its place.
@@ -132,7 +132,7 @@ module _ {n u more d count : ℕ} {s t : List ℕ} (p : Takable n u more s) (k :
       let g : f (u + d) < u = omega (arith, leader-is) in
       (r ∙ leader-is ∙ sym (seat-old f u (u + d) g), inr ((λ e. ne (leader-is ∙ e)), omega (arith, leader-is, count-low), g₁))
   seat-is {t₁} {at} (joining ne h e r) =
-      let x = leader-new f u (u + more) d (p .canon) (omega arith) (omega (arith, leader-is)) in
+      let x = leader-new f u (u + more) d (p .follows) (omega arith) (omega (arith, leader-is)) in
       let ne2 : f (u + d) ≡ u + d → ⊥ = λ e. ne (leader-is ∙ e) in
       let xd : x .0 < d = ⊎-elim (λ (z : x .0 ≡ d). absurd (ne2 (omega (arith, x .2)))) (λ z. omega (arith, x .1)) (eq-or-ne (x .0) d) in
       let y : f (u + d) - u ≡ x .0 = omega (arith, x .2) in

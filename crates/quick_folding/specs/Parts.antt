@@ -3,11 +3,13 @@
 use mathlib.Core.Path.{_≡_}
 use mathlib.Core.Bool.{Bool, true, false, cond}
 use mathlib.Core.List.{List}
+use mathlib.Core.Logic.{_⊎_}
 use Prim.Native.Nat.{ℕ, zero, suc, _+_, _-_, _*_, _≤_, _<_}
 use lib.Dec.{eqb, ltb}
 use lib.ListN.{length, getD, set}
+use Rattle.tables.specs.Table.{weightBy}
 use Rattle.scratch.specs.Scratch.{leadIn}
-use Rattle.splitting.specs.Places.{nxtAt, jumpAt, Canon}
+use Rattle.splitting.specs.Places.{nxtAt, jumpAt}
 
 abbrev pub labelAt : ℕ → List ℕ → ℕ → ℕ
 labelAt n s q = getD s (n + q) 0
@@ -17,6 +19,10 @@ valueAt n s q = getD s (2 * n + q) 0
 
 abbrev pub listAt : ℕ → List ℕ → ℕ → ℕ
 listAt n s i = getD s (3 * n + i) 0
+
+-- The level at which a row's value changed last.
+abbrev pub stampAt : ℕ → List ℕ → ℕ → ℕ
+stampAt n s q = getD s (5 * n + q) 0
 
 -- The level that a row needs, by the cell of its lead.
 abbrev pub needCell : ℕ → ℕ → ℕ
@@ -68,22 +74,34 @@ Valued n = Wrote (2 * n)
 abbrev pub Still : ℕ → ℕ → List ℕ → Type 0
 Still n u s = (c : ℕ) → c < u → nxtAt n s c ≡ valueAt n s (listAt n s c)
 
--- Room for the leaders of places, and values that are places.
-pub record Renewable (n u : ℕ) (s : List ℕ) : Type 0 where
+-- Room for the leaders of places, and values that are places. `lost` places below u have lost their lead, if that is known: if the number is at most 1,024.
+pub record Renewable (n u level lost : ℕ) (s : List ℕ) : Type 0 where
   pub few : n ≤ 1024
-  pub room : 5 * n ≤ length s
+  pub room : 6 * n ≤ length s
   pub values : (q : ℕ) → q < n → valueAt n s q < n
   pub fits : u ≤ n
   pub rows : (c : ℕ) → c < u → listAt n s c < n
+  pub low : level ≤ 65535
+  pub some : 0 < lost → lost ≤ 1024 → 0 < u
 
--- Unless all is still, each value has become its leader.
-pub record Renewed (n u : ℕ) (s t : List ℕ) (r : Bool) : Type 0 where
+-- The value of row q has become its leader, and the level is noted where that is another.
+pub data Relabelled (n level q : ℕ) (s t : List ℕ) : Type 0 where
+  stayed : nxtAt n s (valueAt n s q) ≡ valueAt n s q → t ≡ s → Relabelled n level q s t
+  changed : t ≡ set (set s (2 * n + q) (nxtAt n s (valueAt n s q))) (5 * n + q) level → Relabelled n level q s t
+
+-- The same of the rows below `count`.
+pub record Passed (n level count : ℕ) (s t : List ℕ) : Type 0 where
   pub size : length t ≡ length s
   pub below : (k : ℕ) → k < 2 * n → getD t k 0 ≡ getD s k 0
-  pub above : (k : ℕ) → 3 * n ≤ k → getD t k 0 ≡ getD s k 0
-  pub some : r ≡ false → 0 < u
-  pub still : r ≡ true → Still n u s × (t ≡ s)
-  pub changed : r ≡ false → (q : ℕ) → q < n → valueAt n t q ≡ nxtAt n s (valueAt n s q)
+  pub between : (k : ℕ) → 2 * n + count ≤ k → k < 5 * n → getD t k 0 ≡ getD s k 0
+  pub above : (k : ℕ) → 6 * n ≤ k → getD t k 0 ≡ getD s k 0
+  pub here : (q : ℕ) → q < count → valueAt n t q ≡ nxtAt n s (valueAt n s q)
+  pub noted : (q : ℕ) → q < count → (valueAt n t q ≡ valueAt n s q) ⊎ (stampAt n t q ≡ level)
+
+-- Unless all is still, each value has become its leader.
+pub data Renewed (n u level lost : ℕ) (s t : List ℕ) (r : Bool) : Type 0 where
+  still : (lost ≡ 0) ⊎ Still n u s → t ≡ s → r ≡ true → Renewed n u level lost s t r
+  passed : 0 < u → Passed n level n s t → r ≡ false → Renewed n u level lost s t r
 
 -- The label of each row that has a lead is a place.
 pub record Labels (n : ℕ) (s : List ℕ) : Type 0 where
@@ -119,12 +137,17 @@ pub data Seated (n u i count : ℕ) (s t : List ℕ) (r : ℕ) : Type 0 where
   -- or a new one, whose row has moved down.
   joining : (nxtAt n s i ≡ i → ⊥) → u ≤ nxtAt n s i → t ≡ s → r ≡ jumpAt n s (nxtAt n s i) → Seated n u i count s t r
 
+-- No place below `to` has a later leader, and the leaders of those from u on lead.
+pub record Follows (u to : ℕ) (f : ℕ → ℕ) : Type 0 where
+  pub down : (c : ℕ) → c < to → f c ≤ c
+  pub leads : (c : ℕ) → u ≤ c → c < to → f (f c) ≡ f c
+
 -- New rows at the places from u on, and the leader of each place.
 pub record Takable (n u more : ℕ) (s : List ℕ) : Type 0 where
   pub few : n ≤ 1024
   pub room : 8 * n ≤ length s
   pub fits : u + more ≤ n
-  pub canon : Canon (u + more) (nxtAt n s)
+  pub follows : Follows u (u + more) (nxtAt n s)
   pub rows : Rows n u more s
 
 -- The first d of them have been taken: those that lead are kept and moved down, and each has the place of its leader for label and value.
@@ -166,3 +189,16 @@ pub record Onward (n k i level : ℕ) (s : List ℕ) : Type 0 where
   pub place : i < n
   pub row : listAt n s i < n
   pub level-fits : level < 65535
+
+-- ---- idle events
+
+-- Room for the leads of n rows, and for m targets of each.
+pub record Staying (n m : ℕ) (cells s : List ℕ) : Type 0 where
+  pub few : n ≤ 1024
+  pub events : m ≤ 32
+  pub leads : n ≤ length s
+  pub all-cells : n * m ≤ length cells
+
+-- Event a counts, or stays on every row that has a lead.
+abbrev pub StaysAt : ℕ → ℕ → ℕ → List ℕ → List ℕ → ℕ → Type 0
+StaysAt mask n m cells s a = (weightBy mask a ≡ 1 → ⊥) → (q : ℕ) → q < n → (leadIn s q ≡ 0 → ⊥) → getD cells (q * m + a) 0 ≡ q

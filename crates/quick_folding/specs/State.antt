@@ -9,6 +9,7 @@ use Rattle.tables.specs.Lengths.{lead, reached}
 use Rattle.tables.specs.Table.{Table, offset}
 use Rattle.tables.specs.Reduction.{order, fold}
 use Rattle.scratch.specs.Scratch.{leadIn, lenCell, fewCells, workableIn}
+use Rattle.leaders.specs.Leaders.{Known}
 use Rattle.levels.specs.Levels.{rowAt}
 use Rattle.levels.specs.Sweep.{Placed, Rests, keptTo, Border, Led, Labelled}
 use Rattle.quick_folding.specs.Parts.{labelAt, valueAt, listAt}
@@ -17,6 +18,15 @@ use Rattle.quick_folding.specs.Parts.{labelAt, valueAt, listAt}
 pub record Fits (T : Table) (k : ℕ) (s : List ℕ) : Type 0 where
   pub workable : workableIn fewCells T (length s) ≡ true
   pub offset : k ≤ 65535
+
+-- Every idle event stays on every reached row.
+pub record Stays (E : Events) (M : Machine) : Type 0 where
+  pub stays : (q a : ℕ) → q < M .rows → reached E M q ≡ true → a < E .count → E .weight a ≡ 0 → M .target q a ≡ q
+
+-- Of the u kept rows the `known` first are in the table of leaders, but for those of which an event leads to a row whose value changed at level `last`.
+pub record Tabled (mask : ℕ) (T : Table) (u known last : ℕ) (s : List ℕ) : Type 0 where
+  pub few : known ≤ u
+  pub past : Known mask (T .rows) (T .events) known last (T .cells) s
 
 -- Behind the leads and before the spare cells anything may have changed.
 pub record Apart (n : ℕ) (s t : List ℕ) : Type 0 where

@@ -1,17 +1,20 @@
 // The rows into which rows fold, without distances: level by level the rows that need a level join those before them, and fold into the first row of their class.
 ghost use mathlib.Core.Path.{_≡_};
 ghost use mathlib.Core.Bool.{cond, true, false};
-ghost use Prim.Native.Nat.{ℕ, _+_, _≤_, _<_};
+ghost use mathlib.Core.Logic.{_⊎_};
+ghost use Prim.Native.Nat.{ℕ, _+_, _*_, _≤_, _<_};
 ghost use lib.ListN.{length, getD};
 ghost use Rattle.tables.specs.Table.{weightBy, machine, eventsOf};
 ghost use Rattle.tables.specs.Reduction.{order};
 ghost use Rattle.rules.specs.Rules.{tableOf, offsetOf};
 ghost use Rattle.scratch.specs.Scratch.{leadIn, fewCells, workableIn};
 ghost use Rattle.scratch.specs.Folds.{Folds};
-ghost use Rattle.splitting.specs.Places.{nxtAt};
+ghost use Rattle.classes.specs.Values.{valuesBy, Given};
+ghost use Rattle.leaders.specs.Leaders.{Sizes, Begun, Kept, Joins};
 ghost use Rattle.levels.specs.Levels.{far as farOf};
-ghost use Rattle.quick_folding.specs.Parts.{valueAt, listAt, needCell, foldAt, Appendable, Appended, Valued, Still, Renewable, Renewed, Seated, Seating, Takable, Taken, Searching, Until, Onward, Labels};
-ghost use Rattle.quick_folding.specs.State.{Fits, Laid, Apart, Before, After, Going, Folded};
+ghost use Rattle.quick_folding.specs.Parts.{valueAt, listAt, needCell, foldAt, Appendable, Appended, Valued, Still, Renewable, Relabelled, Passed, Renewed, Seated, Seating, Takable, Taken, Searching, Until, Onward, Labels, Staying, StaysAt};
+ghost use Rattle.quick_folding.specs.State.{Fits, Stays, Tabled, Laid, Apart, Before, After, Going, Folded};
+ghost use Rattle.quick_folding.specs.Grouping.{Grouped, Tells};
 ghost use Rattle.quick_folding.specs.Parting.{Aparts};
 
 mod parting;
@@ -31,8 +34,8 @@ fn append(scratch: &mut [u16], n: usize, u: usize, i: usize, count: usize)
 }
 
 // Whether the leader of every place below u is the value of its row.
-fn still(scratch: &[u16], n: usize, u: usize) -> bool
-    requires { ⌜ Renewable n u (now scratch) ⌝ }
+fn still(scratch: &[u16], n: usize, u: usize, level: usize, lost: usize) -> bool
+    requires { ⌜ Renewable n u level lost (now scratch) ⌝ }
     ensures { λ r. ⌜ (r ≡ true → Still n u (now (scratch .entry))) × (r ≡ false → 0 < u) ⌝ }
 {
     let mut i = 0;
@@ -46,27 +49,55 @@ fn still(scratch: &[u16], n: usize, u: usize) -> bool
     true
 }
 
+// Whether all is still: no place below u has lost its lead, if it is known how many have, or the leader of every one is the value of its row.
+fn quiet(scratch: &[u16], n: usize, u: usize, level: usize, lost: usize) -> bool
+    requires { ⌜ Renewable n u level lost (now scratch) ⌝ }
+    ensures { λ r. ⌜ (r ≡ true → (lost ≡ 0) ⊎ Still n u (now (scratch .entry))) × (r ≡ false → 0 < u) ⌝ }
+{
+    if lost == 0 {
+        return true;
+    }
+    if lost <= 1024 {
+        return false;
+    }
+    still(scratch, n, u, level, lost)
+}
+
+// The value of row q becomes its leader, and the level is noted where that is another.
+fn relabel_row(scratch: &mut [u16], n: usize, level: usize, q: usize)
+    requires { ⌜ (n ≤ 1024) × (6 * n ≤ length (now scratch)) × (level ≤ 65535) × (q < n) × (valueAt n (now scratch) q < n) ⌝ }
+    ensures { λ _. ⌜ Relabelled n level q (now (scratch .entry)) (now (scratch .exit)) ⌝ }
+{
+    let v = scratch[2 * n + q];
+    let w = scratch[4 * n + rules::wide(v)];
+    if w == v {
+        return;
+    }
+    scratch[2 * n + q] = w;
+    scratch[5 * n + q] = level as u16;
+}
+
 // Each value becomes its leader.
-fn relabel(scratch: &mut [u16], n: usize)
-    requires { ⌜ Renewable n 0 (now scratch) ⌝ }
-    ensures { λ r. ⌜ (let s = now (scratch .entry) in Valued n n (λ q. nxtAt n s (valueAt n s q)) s (now (scratch .exit))) ⌝ }
+fn relabel(scratch: &mut [u16], n: usize, level: usize)
+    requires { ⌜ Renewable n 0 level 0 (now scratch) ⌝ }
+    ensures { λ r. ⌜ Passed n level n (now (scratch .entry)) (now (scratch .exit)) ⌝ }
 {
     let mut q = 0;
     while q < n {
-        scratch[2 * n + q] = scratch[4 * n + rules::wide(scratch[2 * n + q])];
+        relabel_row(scratch, n, level, q);
         q += 1;
     }
 }
 
 // Each value becomes its leader, unless all is still; answers whether it is.
-fn renew(scratch: &mut [u16], n: usize, u: usize) -> bool
-    requires { ⌜ Renewable n u (now scratch) ⌝ }
-    ensures { λ r. ⌜ Renewed n u (now (scratch .entry)) (now (scratch .exit)) r ⌝ }
+fn renew(scratch: &mut [u16], n: usize, u: usize, level: usize, lost: usize) -> bool
+    requires { ⌜ Renewable n u level lost (now scratch) ⌝ }
+    ensures { λ r. ⌜ Renewed n u level lost (now (scratch .entry)) (now (scratch .exit)) r ⌝ }
 {
-    if still(scratch, n, u) {
+    if quiet(scratch, n, u, level, lost) {
         return true;
     }
-    relabel(scratch, n);
+    relabel(scratch, n, level);
     false
 }
 
@@ -149,13 +180,118 @@ fn next(scratch: &[u16], n: usize, k: usize, i: usize, level: usize, rest: bool)
     level + 1
 }
 
-// How many rows are kept after a level, and whether nothing has moved at it.
-struct Level {
+// Where the sweep stands: the place in the order, how many rows are kept, the level, and whether nothing has moved at it. How many of the kept rows are in the table of
+// leaders, and the level at which values changed last.
+struct Stand {
+    place: usize,
     kept: usize,
+    level: usize,
     rest: bool,
+    known: usize,
+    last: usize,
 }
 
-// One level: the rows from place i up to j of the order come in behind the u kept so far.
+// Joins leaders of one signature, with an empty table. Answers how many places below u lead no more; more than 1,024 if there was no room.
+fn join_anew(mask: u32, n: usize, m: usize, u: usize, to: usize, known: usize, last: usize, cells: &[u16], scratch: &mut [u16]) -> usize
+    requires { ⌜ (let x = now cells in let s = now scratch in Sizes n m to known s × (u ≤ to) × Begun mask n m to known last x s) ⌝ }
+    ensures { λ r. ⌜ (let x = now (cells .entry) in let s = now (scratch .entry) in let t = now (scratch .exit) in
+        Kept n s t × (r ≤ 1024 → Joins mask n m u to x s t r)) ⌝ }
+{
+    scratch::clear(scratch, 9 * n, 12 * n);
+    leaders::join(mask, n, m, u, to, 0, last, cells, scratch)
+}
+
+// Joins leaders of one signature, where every idle event stays: with the table of the level before, and if there is none or no room in it, anew.
+fn join_leaders(
+    plain: bool,
+    mask: u32,
+    n: usize,
+    m: usize,
+    u: usize,
+    to: usize,
+    known: usize,
+    last: usize,
+    cells: &[u16],
+    scratch: &mut [u16],
+) -> usize
+    requires { ⌜ (let x = now cells in let s = now scratch in Sizes n m to known s × (u ≤ to) × (plain ≡ true → Begun mask n m to known last x s)) ⌝ }
+    ensures { λ r. ⌜ (let x = now (cells .entry) in let s = now (scratch .entry) in let t = now (scratch .exit) in
+        Kept n s t × (r ≤ 1024 → (plain ≡ true) × Joins mask n m u to x s t r)) ⌝ }
+{
+    if !plain {
+        return 1025;
+    }
+    if known == 0 {
+        return join_anew(mask, n, m, u, to, known, last, cells, scratch);
+    }
+    let lost = leaders::join(mask, n, m, u, to, known, last, cells, scratch);
+    if lost <= 1024 {
+        return lost;
+    }
+    join_anew(mask, n, m, u, to, 0, last, cells, scratch)
+}
+
+// The classes of a level: by the table of leaders, or else by splits. Answers how many places below u lead no more; more than 1,024 if that is not known.
+fn group(
+    plain: bool,
+    top: bool,
+    mask: u32,
+    n: usize,
+    m: usize,
+    u: usize,
+    to: usize,
+    known: usize,
+    last: usize,
+    cells: &[u16],
+    marks: &[u8],
+    scratch: &mut [u16],
+) -> usize
+    requires { ⌜ (let x = now cells in let s = now scratch in Given n (valuesBy top mask n m to x (now marks) s) x s × (known ≤ to) × (u ≤ to) × (plain ≡ true → Begun mask n m to known last x s)) ⌝ }
+    ensures { λ r. ⌜ Grouped plain top mask n m u to (now (cells .entry)) (now (marks .entry)) (now (scratch .entry)) (now (scratch .exit)) r ⌝ }
+{
+    let lost = join_leaders(plain, mask, n, m, u, to, known, last, cells, scratch);
+    if lost <= 1024 {
+        return lost;
+    }
+    classes::settle(top, mask, n, m, to, cells, marks, scratch);
+    1025
+}
+
+// Where the sweep stands after a level: the u rows kept before it are in the table of leaders, if that was used.
+fn standing(place: usize, kept: usize, level: usize, rest: bool, lost: usize, u: usize) -> Stand
+    ensures { λ r. ⌜ (r .place ≡ place) × (r .kept ≡ kept) × (r .level ≡ level) × (r .rest ≡ rest) × Tells u level rest lost (r .known) (r .last) ⌝ }
+{
+    if 1024 < lost {
+        return Stand {
+            place: place,
+            kept: kept,
+            level: level,
+            rest: rest,
+            known: 0,
+            last: level,
+        };
+    }
+    if rest {
+        return Stand {
+            place: place,
+            kept: kept,
+            level: level,
+            rest: rest,
+            known: u,
+            last: 65536,
+        };
+    }
+    Stand {
+        place: place,
+        kept: kept,
+        level: level,
+        rest: rest,
+        known: u,
+        last: level,
+    }
+}
+
+// One level: the rows up to place j of the order come in behind those kept so far.
 fn any_level(
     k: usize,
     mask: u32,
@@ -165,34 +301,27 @@ fn any_level(
     cells: &[u16],
     marks: &[u8],
     scratch: &mut [u16],
+    plain: bool,
     level: usize,
-    i: usize,
     j: usize,
-    u: usize,
-) -> Level
+    x: Stand,
+) -> Stand
     requires { ⌜ (let T = tableOf n m start (now cells) (now marks) in let E = eventsOf (weightBy mask) T in
-        Fits T k (now scratch) × Before E (machine T) k level i j u (now scratch)) ⌝ }
+        Fits T k (now scratch) × Before E (machine T) k level (x .place) j (x .kept) (now scratch)
+        × (level ≤ 65535) × (plain ≡ true → Stays E (machine T) × (0 < level)) × Tabled mask T (x .kept) (x .known) (x .last) (now scratch)) ⌝ }
     ensures { λ r. ⌜ (let T = tableOf n m start (now (cells .entry)) (now (marks .entry)) in let E = eventsOf (weightBy mask) T in
-        After E (machine T) k level j (now (scratch .entry)) (now (scratch .exit)) (r .kept) (r .rest)) ⌝ }
+        After E (machine T) k level j (now (scratch .entry)) (now (scratch .exit)) (r .kept) (r .rest)
+        × (r .place ≡ j) × (r .level ≡ level) × Tabled mask T (r .kept) (r .known) (r .last) (now (scratch .exit))) ⌝ }
 {
+    let i = x.place;
+    let u = x.kept;
     let more = j - i;
     append(scratch, n, u, i, more);
     let top = level == 0;
-    classes::settle(top, mask, n, m, u + more, cells, marks, scratch);
-    let rest = renew(scratch, n, u);
+    let lost = group(plain, top, mask, n, m, u, u + more, x.known, x.last, cells, marks, scratch);
+    let rest = renew(scratch, n, u, level, lost);
     let kept = take_new(scratch, n, u, more);
-    Level {
-        kept: kept,
-        rest: rest,
-    }
-}
-
-// Where the sweep stands: the place in the order, how many rows are kept, the level, and whether nothing has moved at it.
-struct Stand {
-    place: usize,
-    kept: usize,
-    level: usize,
-    rest: bool,
+    standing(j, kept, level, rest, lost, u)
 }
 
 // Level 0, with all rows that need no more. Rows that have not come in have the value 0.
@@ -212,17 +341,57 @@ fn first_level(
     ensures { λ r. ⌜ (let T = tableOf n m start (now (cells .entry)) (now (marks .entry)) in let E = eventsOf (weightBy mask) T in
         Apart n (now (scratch .entry)) (now (scratch .exit))
         × Going E (machine T) k (r .level) (r .place) (r .kept) (r .rest) (now (scratch .exit))
-        × (r .level ≡ 0)) ⌝ }
+        × (r .level ≡ 0) × (r .known ≡ 0)) ⌝ }
 {
     scratch::clear(scratch, 2 * n, 3 * n);
     let j = until(scratch, n, k, 0, count, 0);
-    let made = any_level(k, mask, n, m, start, cells, marks, scratch, 0, 0, j, 0);
-    Stand {
-        place: j,
-        kept: made.kept,
-        level: 0,
-        rest: false,
+    let none = standing(0, 0, 0, false, 1025, 0);
+    let made = any_level(k, mask, n, m, start, cells, marks, scratch, false, 0, j, none);
+    standing(j, made.kept, 0, false, 1025, 0)
+}
+
+// Whether row q has a lead, and event a leads to another row.
+fn leaves(m: usize, cells: &[u16], scratch: &[u16], q: usize, a: usize) -> bool
+    requires { ⌜ (q < length (now scratch)) × (q * m + a < length (now cells)) ⌝ }
+    ensures { λ r. ⌜ (r ≡ false → (leadIn (now (scratch .entry)) q ≡ 0 → ⊥) → getD (now (cells .entry)) (q * m + a) 0 ≡ q) ⌝ }
+{
+    if scratch[q] == 0 {
+        return false;
     }
+    rules::wide(cells[q * m + a]) != q
+}
+
+// Whether event a counts, or stays on every row that has a lead.
+fn stays(mask: u32, n: usize, m: usize, cells: &[u16], scratch: &[u16], a: usize) -> bool
+    requires { ⌜ Staying n m (now cells) (now scratch) × (a < m) ⌝ }
+    ensures { λ r. ⌜ (r ≡ true → StaysAt mask n m (now (cells .entry)) (now (scratch .entry)) a) ⌝ }
+{
+    if weights::weight(mask, a as u16) == 1 {
+        return true;
+    }
+    let mut q = 0;
+    while q < n {
+        if leaves(m, cells, scratch, q, a) {
+            return false;
+        }
+        q += 1;
+    }
+    true
+}
+
+// Whether every idle event stays on every row that has a lead.
+fn all_stay(mask: u32, n: usize, m: usize, cells: &[u16], scratch: &[u16]) -> bool
+    requires { ⌜ Staying n m (now cells) (now scratch) ⌝ }
+    ensures { λ r. ⌜ (r ≡ true → (a : ℕ) → a < m → StaysAt mask n m (now (cells .entry)) (now (scratch .entry)) a) ⌝ }
+{
+    let mut a = 0;
+    while a < m {
+        if !stays(mask, n, m, cells, scratch, a) {
+            return false;
+        }
+        a += 1;
+    }
+    true
 }
 
 // The next level.
@@ -236,27 +405,21 @@ fn next_level(
     marks: &[u8],
     scratch: &mut [u16],
     count: usize,
+    plain: bool,
     x: Stand,
 ) -> Stand
     requires { ⌜ (let T = tableOf n m start (now cells) (now marks) in let E = eventsOf (weightBy mask) T in let M = machine T in
         Fits T k (now scratch) × Going E M k (x .level) (x .place) (x .kept) (x .rest) (now scratch)
-        × (count ≡ length (order E M)) × (x .place < count)) ⌝ }
+        × (count ≡ length (order E M)) × (x .place < count) × (plain ≡ true → Stays E M) × Tabled mask T (x .kept) (x .known) (x .last) (now scratch)) ⌝ }
     ensures { λ r. ⌜ (let T = tableOf n m start (now (cells .entry)) (now (marks .entry)) in let E = eventsOf (weightBy mask) T in
         Apart n (now (scratch .entry)) (now (scratch .exit))
         × Going E (machine T) k (r .level) (r .place) (r .kept) (r .rest) (now (scratch .exit))
-        × (x .level < r .level) × (x .level < k)) ⌝ }
+        × (x .level < r .level) × (x .level < k) × Tabled mask T (r .kept) (r .known) (r .last) (now (scratch .exit))) ⌝ }
 {
     let i = x.place;
-    let u = x.kept;
     let level = next(scratch, n, k, i, x.level, x.rest);
     let j = until(scratch, n, k, i, count, level);
-    let made = any_level(k, mask, n, m, start, cells, marks, scratch, level, i, j, u);
-    Stand {
-        place: j,
-        kept: made.kept,
-        level: level,
-        rest: made.rest,
-    }
+    any_level(k, mask, n, m, start, cells, marks, scratch, plain, level, j, x)
 }
 
 // Level after level, until all rows have been taken.
@@ -276,9 +439,10 @@ fn fold_all(
     ensures { λ _. ⌜ (let T = tableOf n m start (now (cells .entry)) (now (marks .entry)) in let E = eventsOf (weightBy mask) T in
         Folded E (machine T) k (now (scratch .entry)) (now (scratch .exit))) ⌝ }
 {
+    let plain = all_stay(mask, n, m, cells, scratch);
     let mut x = first_level(k, mask, n, m, start, cells, marks, scratch, count);
     while x.place < count {
-        x = next_level(k, mask, n, m, start, cells, marks, scratch, count, x);
+        x = next_level(k, mask, n, m, start, cells, marks, scratch, count, plain, x);
     }
 }
 

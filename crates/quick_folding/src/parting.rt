@@ -1,12 +1,13 @@
 // How far each row is from the rows before it, without distances: in the sweep at offset 0 it is the level at which the row loses its lead.
 ghost use mathlib.Core.Path.{_≡_};
+ghost use mathlib.Core.Bool.{true};
 ghost use Prim.Native.Nat.{_*_, _≤_, _<_};
 ghost use lib.ListN.{length};
 ghost use Rattle.tables.specs.Table.{weightBy, machine, eventsOf};
 ghost use Rattle.tables.specs.Reduction.{order};
 ghost use Rattle.rules.specs.Rules.{tableOf};
 ghost use Rattle.quick_folding.specs.Parts.{Wrote, Valued, Labels};
-ghost use Rattle.quick_folding.specs.State.{Fits, Laid, Apart};
+ghost use Rattle.quick_folding.specs.State.{Fits, Stays, Tabled, Laid, Apart};
 ghost use Rattle.quick_folding.specs.Parting.{lossAt, apartAt, Noting, Parted, Measured};
 
 // A length that has no end.
@@ -40,7 +41,7 @@ fn note_losses(scratch: &mut [u16], n: usize, u: usize, level: usize)
     }
 }
 
-// One level more, with all rows at hand. Answers the level up to which losses are known: at rest there are no more.
+// One level more, with all rows at hand. At rest there are no more losses, and so many levels as rows are done.
 fn part_level(
     mask: u32,
     n: usize,
@@ -49,18 +50,19 @@ fn part_level(
     cells: &[u16],
     marks: &[u8],
     scratch: &mut [u16],
-    level: usize,
-    count: usize,
-    u: usize,
-) -> usize
+    plain: bool,
+    x: super::Stand,
+) -> super::Stand
     requires { ⌜ (let T = tableOf n m start (now cells) (now marks) in let E = eventsOf (weightBy mask) T in let M = machine T in
-        Fits T 0 (now scratch) × Parted E M level u (now scratch) × (count ≡ length (order E M)) × (level < n)) ⌝ }
-    ensures { λ r. ⌜ (let T = tableOf n m start (now (cells .entry)) (now (marks .entry)) in let E = eventsOf (weightBy mask) T in
+        Fits T 0 (now scratch) × Parted E M (x .level) (x .kept) (now scratch) × (x .place ≡ length (order E M)) × (x .level < n)
+        × (plain ≡ true → Stays E M) × Tabled mask T (x .kept) (x .known) (x .last) (now scratch)) ⌝ }
+    ensures { λ r. ⌜ (let T = tableOf n m start (now (cells .entry)) (now (marks .entry)) in let E = eventsOf (weightBy mask) T in let M = machine T in
         Apart n (now (scratch .entry)) (now (scratch .exit))
-        × Parted E (machine T) r u (now (scratch .exit))
-        × (level < r) × (r ≤ n)) ⌝ }
+        × Parted E M (r .level) (r .kept) (now (scratch .exit)) × (r .place ≡ length (order E M)) × (x .level < r .level) × (r .level ≤ n)
+        × Tabled mask T (r .kept) (r .known) (r .last) (now (scratch .exit))) ⌝ }
 {
-    let next = level + 1;
+    let level = x.level + 1;
+    let count = x.place;
     let made = super::any_level(
         0,
         mask,
@@ -70,16 +72,16 @@ fn part_level(
         cells,
         marks,
         scratch,
-        next,
+        plain,
+        level,
         count,
-        count,
-        u,
+        x,
     );
-    note_losses(scratch, n, u, next);
+    note_losses(scratch, n, made.kept, level);
     if made.rest {
-        return n;
+        return super::standing(count, made.kept, n, true, 1025, 0);
     }
-    next
+    made
 }
 
 // Level after level, until there are as many as rows: a distance that ends is less.
@@ -98,12 +100,11 @@ pub(crate) fn part_all(
     ensures { λ _. ⌜ (let T = tableOf n m start (now (cells .entry)) (now (marks .entry)) in let E = eventsOf (weightBy mask) T in
         Measured E (machine T) (now (scratch .entry)) (now (scratch .exit))) ⌝ }
 {
-    let x = super::first_level(0, mask, n, m, start, cells, marks, scratch, count);
-    let u = x.kept;
+    let plain = super::all_stay(mask, n, m, cells, scratch);
+    let mut x = super::first_level(0, mask, n, m, start, cells, marks, scratch, count);
     scratch::clear(scratch, 8 * n, 9 * n);
-    let mut level = 0;
-    while level < n {
-        level = part_level(mask, n, m, start, cells, marks, scratch, level, count, u);
+    while x.level < n {
+        x = part_level(mask, n, m, start, cells, marks, scratch, plain, x);
     }
 }
 

@@ -8,10 +8,10 @@ use Rattle.quick_folding.proofs.still.Statement.{statement}
 use Rattle.quick_folding.proofs.still.Tie as tie
 
 abbrev Inv-loop : tie.InvT-loop
-Inv-loop scratch n u i₀ i = (i ≤ u) × Still n i scratch
+Inv-loop scratch n u level lost i₀ i = (i ≤ u) × Still n i scratch
 
 abbrev μ-loop : tie.MeasureT-loop
-μ-loop scratch n u i₀ i = u - i
+μ-loop scratch n u level lost i₀ i = u - i
 
 loop-holds : tie.Need-loop-holds Inv-loop μ-loop
 loop-holds c = (omega arith, λ j h. absurd (omega arith))

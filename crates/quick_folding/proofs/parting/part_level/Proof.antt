@@ -1,45 +1,53 @@
-use Rattle.quick_folding.proofs.Losses.{before-more, noting, noted-apart, parted-next, parted-rest}
-use native.Mathlib.Omega.{arith}
 use borrow.Author.Needs.{needs}
 use Rattle.quick_folding.proofs.parting.part_level.Statement.{statement}
 use Rattle.quick_folding.proofs.parting.part_level.Tie as tie
+use Rattle.quick_folding.proofs.parting.part_level.Reads as reads
+use Rattle.quick_folding.proofs.parting.part_level.Lts as lts
+use Rattle.quick_folding.proofs.any_level.Reads as any-level-reads
+use Rattle.quick_folding.proofs.parting.note_losses.Reads as note-losses-reads
+use Rattle.quick_folding.proofs.standing.Reads as standing-reads
 
+-- src/parting.rt:64:17
+add-level : tie.Need-add-level
+add-level c = search needs
+
+-- src/parting.rt:66:9
 any-level-requires : tie.Need-any-level-requires
-any-level-requires c κs =
-    let a = c .before .before .before .before .args in
-    let p = c .before .before .before .before .pre in
-    (p .0, before-more (a .mask) (p .0) (p .1) (p .2))
+any-level-requires c κs = ?
 
+-- src/parting.rt:80:5
 note-losses-requires : tie.Need-note-losses-requires
-note-losses-requires c κs =
-    let a = c .before .before .before .before .before .before .before .before .args in
-    let p = c .before .before .before .before .before .before .before .before .pre in
-    noting (a .mask) (p .0) (p .1) (p .2) (c .before .before .before .any-level .ensures) (p .3)
+note-losses-requires c κs = ?
 
+-- src/parting.rt:82:9
+standing-requires : tie.Need-standing-requires
+standing-requires c κs = search needs
+
+-- src/parting.rt:82:9
+same-length : tie.Need-same-length
+same-length c = search needs
+
+-- src/parting.rt:82:9
 returns : tie.Need-returns
-returns c =
-    let a = c .before .before .before .before .before .before .before .before .before .before .before .before .args in
-    let p = c .before .before .before .before .before .before .before .before .before .before .before .before .pre in
-    let e = c .before .before .before .before .before .before .before .any-level .ensures in
-    let d = c .before .before .before .note-losses .ensures in
-    (noted-apart (a .mask) (p .0) (p .1) (p .2) e d, parted-rest (a .mask) (p .0) (p .1) (p .2) e d (p .3) (c .if1 .taken), p .3, omega arith)
+returns c = ?
 
+-- src/parting.rt:45:1
+same-length-2 : tie.Need-same-length-2
+same-length-2 c = search needs
+
+-- src/parting.rt:45:1
 returns-2 : tie.Need-returns-2
-returns-2 c =
-    let a = c .before .before .before .before .before .before .before .before .before .before .before .before .args in
-    let p = c .before .before .before .before .before .before .before .before .before .before .before .before .pre in
-    let e = c .before .before .before .before .before .before .before .any-level .ensures in
-    let d = c .before .before .before .note-losses .ensures in
-    (noted-apart (a .mask) (p .0) (p .1) (p .2) e d, parted-next (a .mask) (p .0) (p .1) (p .2) e d, omega arith, omega (arith, p .3))
+returns-2 c = ?
 
 pub part-level-spec : {M : Type 1} → statement M
 part-level-spec =
     tie.close
     (tie.spec
-    (λ c. search needs)
+    add-level
     any-level-requires
     note-losses-requires
-    (λ c. search needs)
+    standing-requires
+    same-length
     returns
-    (λ c. search needs)
+    same-length-2
     returns-2)
