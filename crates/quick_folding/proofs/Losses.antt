@@ -3,14 +3,13 @@ use mathlib.Core.Path.{_≡_, refl, sym, ap, subst, _∙_}
 use mathlib.Core.Bool.{Bool, true}
 use mathlib.Core.List.{List}
 use mathlib.Core.Logic.{⊎-elim}
-use Prim.Native.Nat.{ℕ, suc, _+_, _-_, _*_, _≤_, _<_}
+use Prim.Native.Nat.{ℕ, _+_, _-_, _*_, _≤_, _<_}
 use native.Mathlib.Omega.{arith}
 use native.Mathlib.Decide.{decLe}
 use borrow.Author.Tests.{le-leb, lt-leb, eq-eqb, ne-eqb}
 use lib.ListN.{length, getD}
 use Rattle.automata.specs.Runs.{Events, Machine, Len, len, endless}
 use Rattle.automata.proofs.Runs.{near-cast}
-use Rattle.tables.specs.Lengths.{reached}
 use Rattle.tables.specs.Table.{Table, weightBy, machine, eventsOf, offset}
 use Rattle.tables.specs.Reduction.{order, fold}
 use Rattle.tables.proofs.Counted.{mask-light}
