@@ -11,7 +11,7 @@ use Rattle.automata.specs.Runs.{Events, Machine, Len, len, endless}
 use Rattle.tables.specs.Lengths.{distance, lead}
 use Rattle.tables.specs.Reduction.{sameLen}
 use Rattle.tables.proofs.Lengths.{Below, distance-below, lead-below}
-use Rattle.pairs.specs.Pairs.{triangle, pairAt}
+use Rattle.pairs.specs.Pairs.{triangle}
 use Rattle.pairs.proofs.Pairs.{pair-lift}
 use Rattle.scratch.specs.Scratch.{lenCell}
 use Rattle.lengths.specs.Lengths.{Holds}

@@ -6,9 +6,9 @@ use native.Mathlib.Omega.{arith}
 use native.Mathlib.Decide.{decLt, ℕ-discrete}
 use lib.ListN.{length, getD}
 use lib.Seq.{take-length}
-use Rattle.automata.specs.Runs.{Events, Machine, Sound, Light, Near, Len, len, endless}
+use Rattle.automata.specs.Runs.{Events, Machine, Sound, Light, Len, len, endless}
 use Rattle.automata.proofs.Lists.{Mem}
-use Rattle.automata.proofs.Runs.{near-refl, near-sym, near-trans, near-up, near-cast}
+use Rattle.automata.proofs.Runs.{near-refl, near-up, near-cast}
 use Rattle.tables.specs.Table.{offset}
 use Rattle.tables.specs.Lists.{sift}
 use Rattle.tables.specs.Lengths.{depth}

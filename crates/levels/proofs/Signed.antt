@@ -51,8 +51,8 @@ module _ {E : Events} {M : Machine} (s : Sound E M) (z : Light E) (k K i j : ℕ
           least = λ c x h l n.
               let hx : x < to = omega (arith, low c h, down (v c) (in-v c h)) in
               let e = lone (nxt (v x)) (nxt (v c)) (in-n x hx) (in-n c h) (leads (v x) (in-v x hx) (led-own x hx)) (leads (v c) (in-v c h) (led-own c h))
-                  (near-alike (row (nxt (v x))) (row (nxt (v c))) (hand (nxt (v x)) (in-n x hx)) (hand (nxt (v c)) (in-n c h))
-                  (near-trans (near-sym (close x hx)) (near-trans (near-sym n) (close c h)))) in
+              (near-alike (row (nxt (v x))) (row (nxt (v c))) (hand (nxt (v x)) (in-n x hx)) (hand (nxt (v c)) (in-n c h))
+              (near-trans (near-sym (close x hx)) (near-trans (near-sym n) (close c h)))) in
               omega (arith, low x hx, down (v x) (in-v x hx));
         }
       where

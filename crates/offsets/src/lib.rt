@@ -1,5 +1,4 @@
 // The fewest rows at every offset, on one sheet.
-ghost use mathlib.Core.Path.{_≡_};
 ghost use lib.ListN.{length};
 ghost use Rattle.rules.specs.Rules.{tableOf};
 ghost use Rattle.sheet_rules.specs.Checks.{verdict};

@@ -3,14 +3,13 @@ use mathlib.Core.Path.{_≡_, refl, sym, ap, subst, _∙_}
 use mathlib.Core.Bool.{Bool, true}
 use mathlib.Core.List.{List}
 use mathlib.Core.Logic.{⊎-elim}
-use Prim.Native.Nat.{ℕ, suc, _+_, _-_, _*_, _≤_, _<_}
+use Prim.Native.Nat.{ℕ, _+_, _-_, _*_, _≤_, _<_}
 use native.Mathlib.Omega.{arith}
 use native.Mathlib.Decide.{decLe}
 use borrow.Author.Tests.{le-leb, lt-leb, eq-eqb, ne-eqb}
 use lib.ListN.{length, getD}
 use Rattle.automata.specs.Runs.{Events, Machine, Len, len, endless}
 use Rattle.automata.proofs.Runs.{near-cast}
-use Rattle.tables.specs.Lengths.{reached}
 use Rattle.tables.specs.Table.{Table, weightBy, machine, eventsOf, offset}
 use Rattle.tables.specs.Reduction.{order, fold}
 use Rattle.tables.proofs.Counted.{mask-light}
@@ -27,7 +26,8 @@ use Rattle.levels.proofs.Parting.{no-need, folded-apart, kept-apart, rest-apart
 use Rattle.levels.proofs.Sheet.{Within, apart-below}
 use Rattle.levels.proofs.Sweep.{led-rest}
 use Rattle.quick_folding.specs.Parts.{labelAt, valueAt, listAt, Wrote, Valued, Labels}
-use Rattle.quick_folding.specs.State.{Fits, Apart, Swept, Before, After, Going}
+use Rattle.leaders.proofs.After.{known-still}
+use Rattle.quick_folding.specs.State.{Fits, Tabled, Apart, Swept, Before, After, Going}
 use Rattle.quick_folding.specs.Parting.{notedAt, lossAt, farCell, apartAt, upTo, Noting, Parted, Measured}
 use Rattle.quick_folding.proofs.Entering.{order-short, shape, sound, room}
 use Rattle.quick_folding.proofs.Ending.{apart-then}
@@ -173,6 +173,10 @@ swept-same {E} {M} {k} {L} {i} {u} {s} {t} same w =
     value : (j : ℕ) → j < i → valueAt (M .rows) t (rowAt E M j) ≡ valueAt (M .rows) s (rowAt E M j)
     value j h = same (2 * M .rows + rowAt E M j) (omega (arith, at-row E M j (omega (arith, w .border .within))))
 
+-- By the numbers that say where the sweep stands.
+pub parted-at : {E : Events} {M : Machine} {L L′ u u′ : ℕ} {s : List ℕ} → L′ ≡ L → u′ ≡ u → Parted E M L u s → Parted E M L′ u′ s
+parted-at {E} {M} {L} {L′} {u} {u′} {s} le ue p = subst (λ (x : ℕ). Parted E M x u′ s) (sym le) (subst (λ (x : ℕ). Parted E M L x s) (sym ue) p)
+
 module _ {T : Table} (mask : ℕ) {s : List ℕ} (f : Fits T 0 s) where
   abbrev E : Events
   E = eventsOf (weightBy mask) T
@@ -190,7 +194,7 @@ module _ {T : Table} (mask : ℕ) {s : List ℕ} (f : Fits T 0 s) where
   few-kept w = omega (arith, w .gone .many, kept-few E M 0 all, order-short E M)
 
   -- All rows come in at level 0.
-  taken : {L i u : ℕ} {rest : Bool} {t : List ℕ} → Going E M 0 L i u rest t → i ≡ all
+  pub taken : {L i u : ℕ} {rest : Bool} {t : List ℕ} → Going E M 0 L i u rest t → i ≡ all
   taken {L} {i} g = elim (decLe all i) [
     | yes h ↦ omega (arith, g .swept .border .within)
     | no h ↦ absurd (omega (arith, g .swept .border .high i (omega arith) (omega arith), no-need E M (rowAt E M i)))
@@ -286,6 +290,29 @@ module _ {T : Table} (mask : ℕ) {s : List ℕ} (f : Fits T 0 s) where
 
             old : notedAt n t c ≡ upTo L x
             old = a .noted (8 * n + c) (omega arith) (omega (arith, few-kept made)) ∙ p .noted c h ∙ ap (λ (q : ℕ). upTo L (apart E M q)) (p .swept .gone .listed c h)
+
+        -- As many rows are kept, and what is known of the table of leaders still is.
+        pub kept-same : v ≡ u
+        kept-same = a .swept .gone .many ∙ ap (λ (x : ℕ). length (keptTo E M 0 x)) all-rows ∙ sym (p .swept .gone .many)
+
+        pub tabled-noted : {known last : ℕ} → Tabled mask T v known last t → Tabled mask T v known last w
+        tabled-noted tabled =
+            let h = tabled .few in
+            let k = few-kept made in
+            let e = kept-same in
+            record {
+              few = tabled .few;
+              past = known-still (tabled .past) (λ c l. d .below (3 * n + c) (omega arith)) (λ c l. d .below (2 * n + listAt n t c) (omega (arith, row c (omega arith))))
+                  (λ c x l m. (let y = target c x (omega arith) m in d .below (2 * n + getD (T .cells) (listAt n t c * T .events + x) 0) (omega arith)))
+                  (λ c x l m. (let y = target c x (omega arith) m in d .below (5 * n + getD (T .cells) (listAt n t c * T .events + x) 0) (omega arith)))
+                  (λ c l. d .below (4 * n + c) (omega arith)) (λ c l. d .below (6 * n + c) (omega arith)) (λ x l. d .above (9 * n + x) (omega arith));
+            }
+          where
+            row : (c : ℕ) → c < u → listAt n t c < n
+            row c l = let o = kept-placed E M 0 all c (omega (arith, made .gone .many)) in omega (arith, made .gone .listed c l, o .3, at-row E M (o .0) (o .2))
+
+            target : (c x : ℕ) → c < u → x < T .events → getD (T .cells) (listAt n t c * T .events + x) 0 < n
+            target c x l m = sound f mask .target-in (listAt n t c) x (row c l) m
 
         pub parted-next : Parted E M (L + 1) u w
         parted-next = record { swept = swept-on; noted = noted-on }

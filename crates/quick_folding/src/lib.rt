@@ -192,7 +192,17 @@ struct Stand {
 }
 
 // Joins leaders of one signature, with an empty table. Answers how many places below u lead no more; more than 1,024 if there was no room.
-fn join_anew(mask: u32, n: usize, m: usize, u: usize, to: usize, known: usize, last: usize, cells: &[u16], scratch: &mut [u16]) -> usize
+fn join_anew(
+    mask: u32,
+    n: usize,
+    m: usize,
+    u: usize,
+    to: usize,
+    known: usize,
+    last: usize,
+    cells: &[u16],
+    scratch: &mut [u16],
+) -> usize
     requires { ⌜ (let x = now cells in let s = now scratch in Sizes n m to known s × (u ≤ to) × Begun mask n m to known last x s) ⌝ }
     ensures { λ r. ⌜ (let x = now (cells .entry) in let s = now (scratch .entry) in let t = now (scratch .exit) in
         Kept n s t × (r ≤ 1024 → Joins mask n m u to x s t r)) ⌝ }
@@ -318,7 +328,20 @@ fn any_level(
     let more = j - i;
     append(scratch, n, u, i, more);
     let top = level == 0;
-    let lost = group(plain, top, mask, n, m, u, u + more, x.known, x.last, cells, marks, scratch);
+    let lost = group(
+        plain,
+        top,
+        mask,
+        n,
+        m,
+        u,
+        u + more,
+        x.known,
+        x.last,
+        cells,
+        marks,
+        scratch,
+    );
     let rest = renew(scratch, n, u, level, lost);
     let kept = take_new(scratch, n, u, more);
     standing(j, kept, level, rest, lost, u)
@@ -346,7 +369,20 @@ fn first_level(
     scratch::clear(scratch, 2 * n, 3 * n);
     let j = until(scratch, n, k, 0, count, 0);
     let none = standing(0, 0, 0, false, 1025, 0);
-    let made = any_level(k, mask, n, m, start, cells, marks, scratch, false, 0, j, none);
+    let made = any_level(
+        k,
+        mask,
+        n,
+        m,
+        start,
+        cells,
+        marks,
+        scratch,
+        false,
+        0,
+        j,
+        none,
+    );
     standing(j, made.kept, 0, false, 1025, 0)
 }
 
@@ -419,7 +455,20 @@ fn next_level(
     let i = x.place;
     let level = next(scratch, n, k, i, x.level, x.rest);
     let j = until(scratch, n, k, i, count, level);
-    any_level(k, mask, n, m, start, cells, marks, scratch, plain, level, j, x)
+    any_level(
+        k,
+        mask,
+        n,
+        m,
+        start,
+        cells,
+        marks,
+        scratch,
+        plain,
+        level,
+        j,
+        x,
+    )
 }
 
 // Level after level, until all rows have been taken.

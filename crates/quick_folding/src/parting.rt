@@ -63,6 +63,7 @@ fn part_level(
 {
     let level = x.level + 1;
     let count = x.place;
+    let u = x.kept;
     let made = super::any_level(
         0,
         mask,
@@ -77,9 +78,9 @@ fn part_level(
         count,
         x,
     );
-    note_losses(scratch, n, made.kept, level);
+    note_losses(scratch, n, u, level);
     if made.rest {
-        return super::standing(count, made.kept, n, true, 1025, 0);
+        return super::standing(count, u, n, true, 1025, 0);
     }
     made
 }

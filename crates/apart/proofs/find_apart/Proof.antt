@@ -11,6 +11,9 @@ returns c =
     let f = c .before .before .before .by-pairs in
     from-pairs (a .mask) (tableOf (a .rows) (a .events) (a .start) (a .cells .now) (a .marks .now)) (a .scratch .now) (f .last .1 .1 .1 .1 .1 .1 .0) (c .before .before .before .before .before .if1 .taken) (c .pair-cells .ensures) (f .ensures)
 
+by-levels-requires : tie.Need-by-levels-requires
+by-levels-requires c κs = omega (arith, c .before .if1 .left)
+
 returns-2 : tie.Need-returns-2
 returns-2 c =
     let a = c .before .before .before .before .before .before .before .before .args in
@@ -26,6 +29,6 @@ find-apart-spec =
     (λ c κs. search needs)
     (λ c. search needs)
     returns
-    (λ c κs. search needs)
+    by-levels-requires
     (λ c. search needs)
     returns-2)

@@ -1,6 +1,5 @@
 use Prim.Native.Nat.{ℕ, _-_, _≤_}
 use mathlib.Core.Path.{_≡_, subst}
-use Rattle.pairs.specs.Pairs.{foldsAt}
 use Rattle.quick_folding.specs.Parts.{Wrote}
 use Rattle.quick_folding.proofs.Moves.{wrote-none}
 use Rattle.apart.specs.Steps.{apartAt}

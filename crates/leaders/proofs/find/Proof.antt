@@ -74,9 +74,9 @@ loop-again c =
       omega (arith, l .0),
       between-more {P = λ x. tabAt (a .n) (a .scratch .now) x ≡ 0 → ⊥} (slotOf (a .n) (keyAt (a .n) (a .scratch .now) (a .i))) at (l .1) (λ e. c .before .before .if2 .left (c .before .before .before .wide2 .ensures ∙ e)),
       between-more {P = λ x. (y : ℕ) → tabAt (a .n) (a .scratch .now) x ≡ suc y → Alike (a .mask) (a .n) (a .m) (a .to) (a .known) (a .last) (a .cells .now) (a .scratch .now) (a .i) y → ⊥}
-      (slotOf (a .n) (keyAt (a .n) (a .scratch .now) (a .i))) at (l .2) (λ y e k.
-      let z : c .before .before .before .wide2 .result - 1 ≡ y = omega (arith, c .before .before .before .wide2 .ensures) in
-      c .before .alike .ensures .fails (c .if3 .left) (subst (Alike (a .mask) (a .n) (a .m) (a .to) (a .known) (a .last) (a .cells .now) (a .scratch .now) (a .i)) (sym z) k)),
+          (slotOf (a .n) (keyAt (a .n) (a .scratch .now) (a .i))) at (l .2) (λ y e k.
+          let z : c .before .before .before .wide2 .result - 1 ≡ y = omega (arith, c .before .before .before .wide2 .ensures) in
+          c .before .alike .ensures .fails (c .if3 .left) (subst (Alike (a .mask) (a .n) (a .m) (a .to) (a .known) (a .last) (a .cells .now) (a .scratch .now) (a .i)) (sym z) k)),
     )
 
 mul-result : tie.Need-mul-result Inv-loop μ-loop
@@ -88,7 +88,6 @@ returns-4 c = λ h. absurd (omega arith)
 pub find-spec : {M : Type 1} → statement M
 find-spec =
     tie.close
-    
     (tie.spec
     Inv-loop
     μ-loop

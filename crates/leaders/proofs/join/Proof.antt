@@ -28,15 +28,16 @@ returns-2 : tie.Need-returns-2
 returns-2 c =
     let a = c .before .before .before .before .before .before .before .before .before .before .before .before .before .before .args in
     let d = c .before .before .before .before .before .before .before .seed .ensures in
-    let e = c .before .before .step-all .ensures in
-    (kept-then (d .kept) (e .0), λ z f b h.
-    end (a .mask) (a .n) (a .m) (a .u) (a .to) (a .known) (a .last) (a .cells .now) z f b d (e .1 (hand-still (b .hand) (d .kept) (z .inside))
-    (begin (a .mask) (a .n) (a .m) (a .u) (a .to) (a .known) (a .last) (a .cells .now) z f b d _ (⊎-elim (λ w. omega arith) (λ w. omega arith) (c .before .before .before .before .if2 .came)) (λ x l. ⊎-elim (λ w. calm-above (a .n) (a .m) (a .last) (a .known) (a .cells .now) (c .before .before .before .before .before .before .before .seed .last .0) (omega arith) (λ y. omega (arith, c .before .before .before .before .before .slice-known2 .given y)) x (omega arith)) (λ w. absurd (omega arith)) (c .before .before .before .before .if2 .came))) h))
+    let e = c .before .before .step-all .ensures in (
+      kept-then (d .kept) (e .0),
+      λ z f b h.
+          end (a .mask) (a .n) (a .m) (a .u) (a .to) (a .known) (a .last) (a .cells .now) z f b d (e .1 (hand-still (b .hand) (d .kept) (z .inside))
+          (begin (a .mask) (a .n) (a .m) (a .u) (a .to) (a .known) (a .last) (a .cells .now) z f b d _ (⊎-elim (λ w. omega arith) (λ w. omega arith) (c .before .before .before .before .if2 .came)) (λ x l. ⊎-elim (λ w. calm-above (a .n) (a .m) (a .last) (a .known) (a .cells .now) (c .before .before .before .before .before .before .before .seed .last .0) (omega arith) (λ y. omega (arith, c .before .before .before .before .before .slice-known2 .given y)) x (omega arith)) (λ w. absurd (omega arith)) (c .before .before .before .before .if2 .came))) h),
+    )
 
 pub join-spec : {M : Type 1} → statement M
 join-spec =
     tie.close
-    
     (tie.spec
     (λ c κs. search needs)
     (λ c. search needs)

@@ -50,10 +50,13 @@ loop-again c =
     let d = c .before .before .before .before .before .loop .inv .2 in
     let a = c .before .before .before .before .before .before .before .args in
     let l = c .before .before .before .before .before .loop in
-    let row = kept-front (d .kept) (3 * a .n + l .c) (omega (arith, p .inside)) in
-    (omega arith, omega arith, seeded-next _ d (l .inv .0) (omega (arith, p .inside)) (p .room) (λ h.
-    let e : c .before .before .wide .result ≡ rowAt (a .n) (a .scratch .now) (l .c) = c .before .before .wide .ensures ∙ row in
-    c .cell .ensures ∙ ap (λ (x : ℕ). getD (l .scratch) (2 * a .n + x) 0) e ∙ kept-front (d .kept) (2 * a .n + rowAt (a .n) (a .scratch .now) (l .c)) (omega arith)))
+    let row = kept-front (d .kept) (3 * a .n + l .c) (omega (arith, p .inside)) in (
+      omega arith,
+      omega arith,
+      seeded-next _ d (l .inv .0) (omega (arith, p .inside)) (p .room) (λ h.
+          let e : c .before .before .wide .result ≡ rowAt (a .n) (a .scratch .now) (l .c) = c .before .before .wide .ensures ∙ row in
+          c .cell .ensures ∙ ap (λ (x : ℕ). getD (l .scratch) (2 * a .n + x) 0) e ∙ kept-front (d .kept) (2 * a .n + rowAt (a .n) (a .scratch .now) (l .c)) (omega arith)),
+    )
 
 same-length : tie.Need-same-length Inv-loop μ-loop
 same-length c = c .before .loop .inv .2 .kept .frame .size
@@ -66,7 +69,6 @@ returns c =
 pub seed-spec : {M : Type 1} → statement M
 seed-spec =
     tie.close
-    
     (tie.spec
     Inv-loop
     μ-loop

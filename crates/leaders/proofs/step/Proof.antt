@@ -45,7 +45,6 @@ returns-5 c = noted _ _ (sym (c .before .before .before .before .before .before 
 pub step-spec : {M : Type 1} → statement M
 step-spec =
     tie.close
-    
     (tie.spec
     (λ c. search needs)
     (λ c. search needs)

@@ -40,9 +40,13 @@ loop-again c =
     let p = c .before .before .before .before .before .before .before .before .before .pre in
     let l = c .before .before .before .before .before .before .loop .inv in
     let st = c .before .before .before .step .ensures in
-    let lt = c .before .before .before .before .before .loop-test .taken in
-    (omega arith, omega arith, step-few (p .0 .inside) lt (l .2) st (omega arith), kept-then (l .3) (step-kept (p .0 .inside) lt (l .2) st),
-    λ h j. step-joins (p .0 .inside) lt (l .2) (p .0) (p .1) h (l .3) (l .4 h j) st (omega arith))
+    let lt = c .before .before .before .before .before .loop-test .taken in (
+      omega arith,
+      omega arith,
+      step-few (p .0 .inside) lt (l .2) st (omega arith),
+      kept-then (l .3) (step-kept (p .0 .inside) lt (l .2) st),
+      λ h j. step-joins (p .0 .inside) lt (l .2) (p .0) (p .1) h (l .3) (l .4 h j) st (omega arith),
+    )
 
 same-length-2 : tie.Need-same-length-2 Inv-loop μ-loop
 same-length-2 c = c .before .loop .inv .3 .frame .size
@@ -57,7 +61,6 @@ returns-2 c =
 pub step-all-spec : {M : Type 1} → statement M
 step-all-spec =
     tie.close
-    
     (tie.spec
     Inv-loop
     μ-loop

@@ -31,7 +31,6 @@ returns-2 c = λ e b h. c .before .loop .inv .1 b (omega arith)
 pub all-stay-spec : {M : Type 1} → statement M
 all-stay-spec =
     tie.close
-    
     (tie.spec
     Inv-loop
     μ-loop

@@ -62,16 +62,17 @@ returns c =
     let t = c .before .before .before .take-new .ensures in
     let e = c .standing .ensures in
     let T = tableOf (a .n) (a .m) (a .start) (a .cells .now) (a .marks .now) in
-    let made = level-after (a .mask) (p .0) (p .1) d (grouped (a .mask) (p .0) (p .1) (p .3) d g .1) w t in
-    (subst (λ (x : ℕ). After (eventsOf (weightBy (a .mask)) T) (machine T) (a .k) (a .level) (a .j) (a .scratch .now) (c .before .before .before .take-new .last .0) x (c .standing .result .rest)) (sym (e .1))
-    (subst (λ (x : Bool). After (eventsOf (weightBy (a .mask)) T) (machine T) (a .k) (a .level) (a .j) (a .scratch .now) (c .before .before .before .take-new .last .0) (c .before .before .before .take-new .result) x) (sym (e .3)) made),
-    e .0, e .2,
-    subst (λ (x : ℕ). Tabled (a .mask) T x (c .standing .result .known) (c .standing .result .last) (c .before .before .before .take-new .last .0)) (sym (e .1)) (level-tabled (a .mask) (p .0) (p .1) (p .3) d g w t (e .4)))
+    let made = level-after (a .mask) (p .0) (p .1) d (grouped (a .mask) (p .0) (p .1) (p .3) d g .1) w t in (
+      subst (λ (x : ℕ). After (eventsOf (weightBy (a .mask)) T) (machine T) (a .k) (a .level) (a .j) (a .scratch .now) (c .before .before .before .take-new .last .0) x (c .standing .result .rest)) (sym (e .1))
+          (subst (λ (x : Bool). After (eventsOf (weightBy (a .mask)) T) (machine T) (a .k) (a .level) (a .j) (a .scratch .now) (c .before .before .before .take-new .last .0) (c .before .before .before .take-new .result) x) (sym (e .3)) made),
+      e .0,
+      e .2,
+      subst (λ (x : ℕ). Tabled (a .mask) T x (c .standing .result .known) (c .standing .result .last) (c .before .before .before .take-new .last .0)) (sym (e .1)) (level-tabled (a .mask) (p .0) (p .1) (p .3) d g w t (e .4)),
+    )
 
 pub any-level-spec : {M : Type 1} → statement M
 any-level-spec =
     tie.close
-    
     (tie.spec
     sub-more
     append-requires

@@ -46,7 +46,6 @@ returns c =
 pub first-level-spec : {M : Type 1} → statement M
 first-level-spec =
     tie.close
-    
     (tie.spec
     mul-clear
     mul-clear-2

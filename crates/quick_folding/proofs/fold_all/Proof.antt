@@ -11,7 +11,7 @@ use Rattle.quick_folding.proofs.fold_all.Statement.{statement}
 use Rattle.quick_folding.proofs.fold_all.Tie as tie
 
 abbrev Inv-loop : tie.InvT-loop
-Inv-loop k mask n m start cells marks scratch₀ count plain x₀ scratch x = 
+Inv-loop k mask n m start cells marks scratch₀ count plain x₀ scratch x =
     Apart n scratch₀ scratch
     × Going (eventsOf (weightBy mask) (tableOf n m start cells marks)) (machine (tableOf n m start cells marks)) k (x .level) (x .place) (x .kept) (x .rest) scratch
     × Tabled mask (tableOf n m start cells marks) (x .kept) (x .known) (x .last) scratch
@@ -59,7 +59,6 @@ returns c =
 pub fold-all-spec : {M : Type 1} → statement M
 fold-all-spec =
     tie.close
-    
     (tie.spec
     Inv-loop
     μ-loop

@@ -33,7 +33,6 @@ returns-2 c =
 pub group-spec : {M : Type 1} → statement M
 group-spec =
     tie.close
-    
     (tie.spec
     join-leaders-requires
     same-length

@@ -22,13 +22,15 @@ returns : tie.Need-returns
 returns c =
     let p = c .before .before .before .before .before .before .before .before .before .before .pre in
     let k = emptied-kept (emptied (p .0 .few) (p .0 .room) (c .before .before .before .before .before .before .clear .ensures)) in
-    let b = p .2 in
-    (kept-then k (c .before .before .join .ensures .0), λ h. joins-before (p .0 .inside) (b .hand) k (p .1)
-    (c .before .before .join .ensures .1 (sizes-anew (p .0) k) (p .1) (begun-anew (p .0 .inside) (b .hand) k b) h))
+    let b = p .2 in (
+      kept-then k (c .before .before .join .ensures .0),
+      λ h. joins-before (p .0 .inside) (b .hand) k (p .1)
+          (c .before .before .join .ensures .1 (sizes-anew (p .0) k) (p .1) (begun-anew (p .0 .inside) (b .hand) k b) h),
+    )
 
 pub join-anew-spec : {M : Type 1} → statement M
 join-anew-spec =
-    tie.close 
+    tie.close
     (tie.spec
     mul-clear
     mul-clear-2

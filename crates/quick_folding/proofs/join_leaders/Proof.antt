@@ -48,7 +48,6 @@ returns-4 c =
 pub join-leaders-spec : {M : Type 1} → statement M
 join-leaders-spec =
     tie.close
-    
     (tie.spec
     returns
     join-anew-requires

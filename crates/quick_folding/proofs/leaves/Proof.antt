@@ -15,7 +15,6 @@ returns-2 c = λ e ne. sym (c .wide .ensures) ∙ eqb-true _ _ (not-false _ e)
 pub leaves-spec : {M : Type 1} → statement M
 leaves-spec =
     tie.close
-    
     (tie.spec
     (λ c. search needs)
     (λ c. search needs)

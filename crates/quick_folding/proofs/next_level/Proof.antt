@@ -38,7 +38,7 @@ returns c =
 
 pub next-level-spec : {M : Type 1} → statement M
 next-level-spec =
-    tie.close 
+    tie.close
     (tie.spec
     next-requires
     until-requires

@@ -15,7 +15,7 @@ returns-3 : tie.Need-returns-3
 returns-3 c = (λ e. inr (c .still .ensures .0 e), c .still .ensures .1)
 
 pub quiet-spec : {M : Type 1} → statement M
-quiet-spec = tie.close 
+quiet-spec = tie.close
     (tie.spec
     returns
     returns-2

@@ -41,7 +41,6 @@ returns c =
 pub relabel-spec : {M : Type 1} → statement M
 relabel-spec =
     tie.close
-    
     (tie.spec
     Inv-loop
     μ-loop

@@ -33,7 +33,6 @@ returns-2 c =
 pub relabel-row-spec : {M : Type 1} → statement M
 relabel-row-spec =
     tie.close
-    
     (tie.spec
     (λ c. search needs)
     (λ c. search needs)

@@ -22,7 +22,6 @@ returns-2 c = passed (c .before .before .before .before .before .quiet .ensures 
 pub renew-spec : {M : Type 1} → statement M
 renew-spec =
     tie.close
-    
     (tie.spec
     (λ c κs. search needs)
     (λ c. search needs)

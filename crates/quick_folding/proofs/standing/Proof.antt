@@ -14,7 +14,7 @@ returns-3 : tie.Need-returns-3
 returns-3 c = (refl, refl, refl, refl, moved (omega arith) (c .if2 .left) refl refl)
 
 pub standing-spec : {M : Type 1} → statement M
-standing-spec = tie.close 
+standing-spec = tie.close
     (tie.spec
     returns
     returns-2

@@ -42,7 +42,6 @@ returns-3 c = λ e ne p h. c .before .loop .inv .1 p (omega arith)
 pub stays-spec : {M : Type 1} → statement M
 stays-spec =
     tie.close
-    
     (tie.spec
     Inv-loop
     μ-loop
