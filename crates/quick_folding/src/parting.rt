@@ -61,7 +61,8 @@ fn part_level(
         × Parted E M (r .level) (r .kept) (now (scratch .exit)) × (r .place ≡ length (order E M)) × (x .level < r .level) × (r .level ≤ n)
         × Tabled mask T (r .kept) (r .known) (r .last) (now (scratch .exit))) ⌝ }
 {
-    let level = x.level + 1;
+    let last = x.level;
+    let level = last + 1;
     let count = x.place;
     let u = x.kept;
     let made = super::any_level(
