@@ -6,7 +6,8 @@ use Prim.Native.Nat.{ℕ, _+_, _*_, _≤_, _<_}
 use native.Mathlib.Omega.{arith}
 use lib.ListN.{set, length-set}
 use lib.Seq.{getD-set-other, take-set-le, drop-set-lt}
-use Rattle.classes.specs.Steps.{Spared, Kept, Traced}
+use Rattle.classes.specs.Steps.{Spared, Traced}
+use Rattle.classes.proofs.Moves.{kept-none}
 
 pub spared-none : {n : ℕ} {s : List ℕ} → Spared n s s
 spared-none = record { size = refl; before = refl; regions = λ k l. refl; behind = refl }
@@ -24,7 +25,7 @@ spared-set {n} s k x from until =
     }
 
 pub traced-none : {n : ℕ} {top : Bool} {s : List ℕ} → Traced n top s s
-traced-none = record { kept = record { size = refl; before = refl; spare = λ e k l h. refl; behind = refl }; leaders = λ i l. refl }
+traced-none = record { kept = kept-none; leaders = λ i l. refl }
 
 -- At the top level.
 pub traced-top : {n : ℕ} {top : Bool} {s t : List ℕ} → top ≡ true → Spared n s t → Traced n top s t

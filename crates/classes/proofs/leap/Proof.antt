@@ -3,7 +3,7 @@ use mathlib.Core.Logic.{inl}
 use Rattle.splitting.specs.Places.{nxtAt, followers, Split}
 use Rattle.splitting.proofs.Frames.{frame-none, span-at}
 use Rattle.splitting.proofs.Counts.{followers-few}
-use Rattle.classes.specs.Steps.{none, Leaps}
+use Rattle.classes.specs.Steps.{none}
 use Rattle.classes.proofs.Moves.{room-after, led-ready, led-keyed, led-jumps, Doubling, doubling-next}
 use native.Mathlib.Omega.{arith}
 use Rattle.classes.proofs.leap.Statement.{statement}

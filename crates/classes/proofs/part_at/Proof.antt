@@ -1,9 +1,8 @@
-use mathlib.Core.Path.{_∙_, sym, ap}
 use mathlib.Core.Bool.{true, false}
-use Prim.Native.Nat.{ℕ, _<_}
+use Prim.Native.Nat.{_<_}
 use Rattle.splitting.specs.Places.{front, nxtAt}
 use Rattle.classes.specs.Values.{leadTo}
-use Rattle.classes.specs.Steps.{Keyed, Goes, Parts}
+use Rattle.classes.specs.Steps.{Goes, Parts}
 use Rattle.classes.proofs.Parts.{parts-like, parts-else}
 use Rattle.classes.proofs.Singles.{single-out}
 use native.Mathlib.Omega.{arith}
