@@ -10,7 +10,7 @@ ghost use Rattle.tables.specs.Table.{markOf};
 ghost use Rattle.scratch.specs.Tests.{Tested};
 ghost use Rattle.splitting.specs.Places.{front, nxtAt, keyAt, jumpAt, Filled, Span, Canon, Room, Ready};
 ghost use Rattle.classes.specs.Values.{rowIn, targetIn, placeIn, leadTo, outerBy, valuesBy, value, Alike, Sizes, Reads, Given};
-ghost use Rattle.classes.specs.Steps.{First, Fault, Begun, Refined, Keyed, Goes, Part, Parts, Once, Spared, Traced, Doubled, Leaps, Settled};
+ghost use Rattle.classes.specs.Steps.{Round, First, Fault, Begun, Refined, Keyed, Goes, Part, Parts, Once, Spared, Traced, Doubled, Leaps, Settled};
 
 // The place that stands for the target of row q at an event.
 fn place_of(n: usize, m: usize, cells: &[u16], scratch: &[u16], q: usize, a: usize) -> usize
@@ -120,7 +120,18 @@ fn fault_at(
     )
 }
 
-// From a place on, the first one that is unlike its leader; `to` if there is none.
+// The place that has turn k where turns begin at a place and go round.
+fn turn(from: usize, k: usize, to: usize) -> usize
+    requires { ⌜ (from ≤ to) × (k < to) × (to ≤ 1024) ⌝ }
+    ensures { λ r. ⌜ (r < to) × Round from to k r ⌝ }
+{
+    if from + k < to {
+        return from + k;
+    }
+    from + k - to
+}
+
+// From a place on, and round to it again, the first one that is unlike its leader; `to` if there is none.
 fn fault(
     top: bool,
     mask: u32,
@@ -133,41 +144,17 @@ fn fault(
     from: usize,
 ) -> usize
     requires { ⌜ (let s = now scratch in let W = valuesBy top mask n m to (now cells) (now marks) s in Given n W (now cells) s × Canon to (nxtAt n s) × (from ≤ to)) ⌝ }
-    ensures { λ r. ⌜ (let s = now (scratch .entry) in let W = valuesBy top mask n m to (now (cells .entry)) (now (marks .entry)) s in Fault W (nxtAt n s) from r) ⌝ }
+    ensures { λ r. ⌜ (let s = now (scratch .entry) in let W = valuesBy top mask n m to (now (cells .entry)) (now (marks .entry)) s in Fault W (nxtAt n s) r) ⌝ }
 {
-    let mut i = from;
-    while i < to {
+    let mut k = 0;
+    while k < to {
+        let i = turn(from, k, to);
         if fault_at(top, mask, n, m, to, cells, marks, scratch, i) <= m {
             return i;
         }
-        i += 1;
+        k += 1;
     }
     to
-}
-
-// One of all places that is unlike its leader, looked for from a place on first; `to` if there is none.
-fn search(
-    top: bool,
-    mask: u32,
-    n: usize,
-    m: usize,
-    to: usize,
-    cells: &[u16],
-    marks: &[u8],
-    scratch: &[u16],
-    from: usize,
-) -> usize
-    requires { ⌜ (let s = now scratch in let W = valuesBy top mask n m to (now cells) (now marks) s in Given n W (now cells) s × Canon to (nxtAt n s) × (from ≤ to)) ⌝ }
-    ensures { λ r. ⌜ (let s = now (scratch .entry) in let W = valuesBy top mask n m to (now (cells .entry)) (now (marks .entry)) s in Fault W (nxtAt n s) 0 r) ⌝ }
-{
-    if from == 0 {
-        return fault(top, mask, n, m, to, cells, marks, scratch, 0);
-    }
-    let i = fault(top, mask, n, m, to, cells, marks, scratch, from);
-    if i < to {
-        return i;
-    }
-    fault(top, mask, n, m, to, cells, marks, scratch, 0)
 }
 
 // Keys: the marks.
@@ -525,7 +512,7 @@ fn mend(
 {
     let mut left = to;
     let mut poor = 0;
-    let mut i = search(top, mask, n, m, to, cells, marks, scratch, 0);
+    let mut i = fault(top, mask, n, m, to, cells, marks, scratch, 0);
     while i < to {
         let one = narrow(left, poor);
         let made = refine(top, mask, n, m, to, cells, marks, scratch, size, i, one);
@@ -533,7 +520,7 @@ fn mend(
         poor = again(poor, made);
         trace_all(top, n, m, to, cells, scratch, poor);
         let from = hint(top, n, to, scratch, i, poor);
-        i = search(top, mask, n, m, to, cells, marks, scratch, from);
+        i = fault(top, mask, n, m, to, cells, marks, scratch, from);
     }
 }
 
