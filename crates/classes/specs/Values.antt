@@ -32,6 +32,10 @@ targetIn m cells q a = getD cells (q * m + a) 0
 abbrev pub placeIn : ℕ → ℕ → List ℕ → List ℕ → ℕ → ℕ → ℕ
 placeIn n m cells b q a = getD b (2 * n + targetIn m cells q a) 0
 
+-- The place to which an event leads from a place.
+abbrev pub leadTo : ℕ → ℕ → List ℕ → List ℕ → ℕ → ℕ → ℕ
+leadTo n m cells b a i = placeIn n m cells b (rowIn n b i) a
+
 abbrev pub outerBy : Bool → ℕ → ℕ → Bool
 outerBy top mask a = cond top false (eqb (weightBy mask a) 1)
 

@@ -42,7 +42,7 @@ split-after top mask n m to cells marks {s} {s₁} {t} g k settle = settled-from
 pub record Grouping (mask : ℕ) (T : Table) (k L i j u : ℕ) (s t₁ t₂ : List ℕ) (lost : ℕ) (f : ℕ → ℕ) : Type 0 where
   pub size : length t₂ ≡ length t₁
   pub front : (x : ℕ) → x < 4 * T .rows → getD t₂ x 0 ≡ getD t₁ x 0
-  pub spare : (x : ℕ) → 8 * T .rows ≤ x → x < 9 * T .rows → getD t₂ x 0 ≡ getD t₁ x 0
+  pub spare : 0 < L → (x : ℕ) → 8 * T .rows ≤ x → x < 9 * T .rows → getD t₂ x 0 ≡ getD t₁ x 0
   pub behind : (x : ℕ) → 12 * T .rows ≤ x → getD t₂ x 0 ≡ getD t₁ x 0
   pub settled : Settled (eventsOf (weightBy mask) T) (machine T) k L i j f
   pub new-led : (x : ℕ) → x < j - i → f (u + x) ≡ nxtAt (T .rows) t₂ (u + x)

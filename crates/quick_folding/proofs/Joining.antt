@@ -6,6 +6,7 @@ use mathlib.Core.Logic.{_⊎_, inl, inr, ⊎-elim}
 use Prim.Native.Nat.{ℕ, suc, _+_, _-_, _*_, _≤_, _<_}
 use native.Mathlib.Omega.{arith}
 use native.Mathlib.Decide.{decLt}
+use borrow.Author.Tests.{ne-eqb}
 use lib.Dec.{eqb}
 use lib.ListN.{length, getD}
 use Rattle.automata.specs.Runs.{Events, Machine, Near}
@@ -57,7 +58,7 @@ module _ {T : Table} (mask : ℕ) {k L i j u : ℕ} {s : List ℕ} (v : Fits T k
       record {
         size = d .frame .size;
         front = λ x h. sym (front-read n t₂ x h) ∙ ap (λ (l : List ℕ). getD l x 0) (d .frame .before) ∙ front-read n t₁ x h;
-        spare = d .frame .spare;
+        spare = λ pos. d .frame .spare (ne-eqb L 0 (λ z. omega arith));
         behind = λ x h. same-behind (12 * n) t₂ t₁ (d .frame .behind) x h;
         settled = In.settled mask v b a d;
         new-led = λ x h. refl;
@@ -213,7 +214,7 @@ module _ {T : Table} (mask : ℕ) {k L i j u : ℕ} {s : List ℕ} (v : Fits T k
           record {
             size = f .frame .size;
             front = kept-front f;
-            spare = f .frame .spare;
+            spare = λ pos. f .frame .spare;
             behind = λ x h. same-behind (12 * n) t₂ t₁ (f .frame .behind) x h;
             settled = subst (λ (H : ℕ). Settled E M k H i j (λ c. nxtAt n t₂ (own c))) (sym e) joined-settled;
             new-led = λ x h. ap (nxtAt n t₂) (own-new (u + x) (λ l. omega arith) (omega arith));

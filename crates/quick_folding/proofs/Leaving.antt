@@ -351,7 +351,7 @@ module _ {T : Table} (mask : ℕ) {k L i j u : ℕ} {s : List ℕ} (v : Fits T k
                       g .behind x (omega arith) ∙ same₃ x (inr (inr (omega arith))) ∙ d .behind x h
                       ∙ a .behind x (omega (arith, bounds .0, bounds .1, bounds .2));
                 };
-            noted = λ x h l. g .behind x (omega arith) ∙ same₃ x (inr (inr (omega arith))) ∙ d .spare x h l ∙ a .behind x (omega (arith, bounds .0, bounds .1, bounds .2));
+            noted = λ pos x h l. g .behind x (omega arith) ∙ same₃ x (inr (inr (omega arith))) ∙ d .spare pos x h l ∙ a .behind x (omega (arith, bounds .0, bounds .1, bounds .2));
             swept =
                 record {
                   gone =

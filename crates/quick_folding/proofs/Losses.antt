@@ -289,7 +289,7 @@ module _ {T : Table} (mask : ℕ) {s : List ℕ} (f : Fits T 0 s) where
             is = ap (λ (q : ℕ). upTo (L + 1) (apart E M q)) (sym (swept-on .gone .listed c h))
 
             old : notedAt n t c ≡ upTo L x
-            old = a .noted (8 * n + c) (omega arith) (omega (arith, few-kept made)) ∙ p .noted c h ∙ ap (λ (q : ℕ). upTo L (apart E M q)) (p .swept .gone .listed c h)
+            old = a .noted (omega arith) (8 * n + c) (omega arith) (omega (arith, few-kept made)) ∙ p .noted c h ∙ ap (λ (q : ℕ). upTo L (apart E M q)) (p .swept .gone .listed c h)
 
         -- As many rows are kept, and what is known of the table of leaders still is.
         pub kept-same : v ≡ u

@@ -64,10 +64,10 @@ module _ (E : Events) (M : Machine) where
       pub last : (K : ℕ) → L ≡ suc K → Border E M k K i
       pub led : Led E M k (L - 1) i (valueAt (M .rows) s)
 
-    -- It has been made. Region 8 is as it was.
+    -- It has been made. Above level 0 region 8 is as it was.
     pub record After (L j : ℕ) (s t : List ℕ) (u : ℕ) (rest : Bool) : Type 0 where
       pub apart : Apart (M .rows) s t
-      pub noted : (x : ℕ) → 8 * M .rows ≤ x → x < 9 * M .rows → getD t x 0 ≡ getD s x 0
+      pub noted : 0 < L → (x : ℕ) → 8 * M .rows ≤ x → x < 9 * M .rows → getD t x 0 ≡ getD s x 0
       pub swept : Swept L j u t
       pub rests : rest ≡ true → 0 < L → Rests E M (Placed E M j) L
 

@@ -1,6 +1,5 @@
 // Splitting the classes of places by their keys, in one pass over the places, with a table in which each slot is taken once.
 ghost use mathlib.Core.Path.{_≡_};
-ghost use mathlib.Core.Bool.{false};
 ghost use Prim.Native.Nat.{_*_, _≤_, _<_};
 ghost use lib.ListN.{length};
 ghost use Rattle.scratch.specs.Tests.{Tested};
@@ -42,19 +41,19 @@ fn split_one(scratch: &mut [u16], n: usize, i: usize, size: usize) -> bool
     false
 }
 
-// Splits all classes by their keys; answers whether that made a leader.
-fn split_all(scratch: &mut [u16], n: usize, to: usize, size: usize) -> bool
+// Splits all classes by their keys; answers how many leaders that made.
+fn split_all(scratch: &mut [u16], n: usize, to: usize, size: usize) -> usize
     requires { ⌜ Ready n to size (now scratch) ⌝ }
     ensures { λ r. ⌜ Split n to (now (scratch .entry)) (now (scratch .exit)) r ⌝ }
 {
     scratch::clear(scratch, 9 * n, 9 * n + size);
-    let mut made = false;
+    let mut made = 0;
     let mut i = 0;
     while i < to {
         let hit = split_one(scratch, n, i, size);
         i += 1;
         if hit {
-            made = true;
+            made += 1;
         }
     }
     made
@@ -99,14 +98,14 @@ fn canonical(scratch: &[u16], n: usize, to: usize) -> bool
 }
 
 // The same, where there is room for it and each leader leads and is no later place; elsewhere nothing is changed, and no leader made.
-pub fn split(scratch: &mut [u16], n: usize, to: usize, size: usize) -> bool
-    ensures { λ r. ⌜ (let s = now (scratch .entry) in let t = now (scratch .exit) in (Ready n to size s → Split n to s t r) × ((Ready n to size s → ⊥) → (t ≡ s) × (r ≡ false))) ⌝ }
+pub fn split(scratch: &mut [u16], n: usize, to: usize, size: usize) -> usize
+    ensures { λ r. ⌜ (let s = now (scratch .entry) in let t = now (scratch .exit) in (Ready n to size s → Split n to s t r) × ((Ready n to size s → ⊥) → (t ≡ s) × (r ≡ 0))) ⌝ }
 {
     if !roomy(scratch, n, to, size) {
-        return false;
+        return 0;
     }
     if !canonical(scratch, n, to) {
-        return false;
+        return 0;
     }
     split_all(scratch, n, to, size)
 }

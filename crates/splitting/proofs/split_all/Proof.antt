@@ -3,7 +3,8 @@ use mathlib.Core.Path.{_≡_, subst}
 use mathlib.Core.Logic.{inr}
 use native.Mathlib.Omega.{arith}
 use borrow.Author.Needs.{needs}
-use Rattle.splitting.specs.Places.{Filled}
+use Rattle.splitting.specs.Places.{nxtAt, Filled}
+use Rattle.splitting.proofs.Counts.{followers-few}
 use Rattle.splitting.proofs.Frames.{filled-clear}
 use Rattle.splitting.proofs.Splitting.{Splitting, splitting-start, splitting-hit, splitting-miss, turning, begun-room, begun-canon, split-done}
 use Rattle.splitting.proofs.split_all.Statement.{statement}
@@ -31,6 +32,13 @@ split-one-requires c κs =
     let l = c .before .before .loop in
     turning (begun-room (p .room) (p .canon) b) (begun-canon (p .room) (p .canon) b) (p .room .inside) (c .before .loop-test .taken) (l .inv .1)
 
+-- no more leaders than places
+add-made : tie.Need-add-made Inv-loop μ-loop
+add-made c =
+    let l = c .before .before .before .before .before .before .loop in
+    let a = c .before .before .before .before .before .before .before .before .before .before .before .before .args in
+    omega (arith, l .inv .1 .count, followers-few (nxtAt (a .n) (c .before .before .before .before .before .before .before .before .before .clear .last .0)) (l .i), c .before .before .before .before .before .before .before .before .before .before .before .before .pre .room)
+
 loop-again : tie.Need-loop-again Inv-loop μ-loop
 loop-again c =
     let p = c .before .before .before .before .before .before .before .before .before .before .before .before .pre in
@@ -43,7 +51,7 @@ loop-again-2 c =
     let p = c .before .before .before .before .before .before .before .before .before .before .before .before .pre in
     let b = empty (c .before .before .before .before .before .before .before .before .before) in
     let l = c .before .before .before .before .before .before .loop in
-    (omega arith, splitting-miss (begun-room (p .room) (p .canon) b) (begun-canon (p .room) (p .canon) b) (p .room .inside) (c .before .before .before .before .before .loop-test .taken) (l .inv .1) (c .before .before .before .split-one .ensures))
+    (omega arith, splitting-miss (begun-room (p .room) (p .canon) b) (begun-canon (p .room) (p .canon) b) (p .room .inside) (c .before .before .before .before .before .loop-test .taken) (l .inv .1) (c .before .before .before .split-one .ensures) (c .if1 .left))
 
 same-length : tie.Need-same-length Inv-loop μ-loop
 same-length c = omega (arith, c .before .loop .inv .1 .frame .size, empty (c .before .before .before .before) .frame .size)
@@ -69,6 +77,7 @@ split-all-spec =
     loop-holds
     split-one-requires
     (λ c. omega arith)
+    add-made
     (λ c. omega arith)
     loop-again
     (λ c. omega arith)
