@@ -13,40 +13,12 @@ use Rattle.splitting.specs.Places.{front, nxtAt, Canon}
 use Rattle.splitting.proofs.Frames.{frame-set}
 use Rattle.splitting.proofs.Counts.{followers-lt}
 use Rattle.classes.specs.Values.{rowIn, targetIn, leadTo, Sizes, Reads}
-use Rattle.classes.specs.Steps.{Keyed, Once}
+use Rattle.classes.specs.Steps.{Keyed}
 use Rattle.classes.proofs.Reading.{front-read}
 
--- x was found so often among the first i values.
-pub record Found (f : ℕ → ℕ) (x i found : ℕ) : Type 0 where
-  pub small : found ≤ i
-  pub none : found ≡ 0 → (j : ℕ) → j < i → f j ≡ x → ⊥
-  pub one : found ≡ 1 → Once f i x
-
-pub found-start : {f : ℕ → ℕ} {x : ℕ} → Found f x 0 0
-found-start = record { small = omega arith; none = λ e j l. absurd (omega arith); one = λ e. absurd (omega arith) }
-
-module _ {f : ℕ → ℕ} {x i found : ℕ} (d : Found f x i found) where
-  pub found-hit : Found f x (i + 1) (found + 1)
-  found-hit =
-      let small = d .small in
-      record {
-        small = omega arith;
-        none = λ e. absurd (omega arith);
-        one = λ e j k l h a b.
-            let z : found ≡ 0 = omega arith in
-            let last : (p : ℕ) → p < i + 1 → f p ≡ x → p ≡ i = λ p g w. ⊎-elim (λ o. o) (λ o. absurd (d .none z p (omega arith) w)) (eq-or-ne p i) in
-            last j l a ∙ sym (last k h b);
-      }
-
-  pub found-miss : (f i ≡ x → ⊥) → Found f x (i + 1) found
-  found-miss no-x =
-      let small = d .small in
-      let before : (p : ℕ) → p < i + 1 → f p ≡ x → p < i = λ p g w. ⊎-elim (λ o. absurd (no-x (ap f (sym o) ∙ w))) (λ o. omega arith) (eq-or-ne p i) in
-      record {
-        small = omega arith;
-        none = λ e j l a. d .none e j (before j l a) a;
-        one = λ e j k l h a b. d .one e j k (before j l a) (before k h b) a b;
-      }
+-- Of `count` values no two are x.
+abbrev Single : (ℕ → ℕ) → ℕ → ℕ → Type 0
+Single f count x = (i j : ℕ) → i < count → j < count → f i ≡ x → f j ≡ x → i ≡ j
 
 -- One place is of the class to which place i leads, and stands for one row, which is the target of one row, which stands at one place.
 module _ {n m to : ℕ} {cells s : List ℕ} (z : Sizes n m to cells s) (within : (j : ℕ) → j < to → Reads n m to cells s (rowIn n (front n s) j)) (a : ℕ) (h : a < m) where
@@ -57,8 +29,8 @@ module _ {n m to : ℕ} {cells s : List ℕ} (z : Sizes n m to cells s) (within 
     pub place-is : place ≡ leadTo n m cells (front n s) a i
     pub leader-is : leader ≡ nxtAt n s (leadTo n m cells (front n s) a i)
 
-  pub sole-place : {i row target place leader : ℕ} → i < to → Looked i row target place leader → Once (λ k. getD cells (0 + k) 0) (n * m) target → Once (λ k. getD s (2 * n + k) 0) n place
-      → Once (λ k. getD s (4 * n + k) 0) to leader → Once (λ k. getD s (3 * n + k) 0) to row → (j : ℕ) → j < to
+  pub sole-place : {i row target place leader : ℕ} → i < to → Looked i row target place leader → Single (λ k. getD cells (0 + k) 0) (n * m) target → Single (λ k. getD s (2 * n + k) 0) n place
+      → Single (λ k. getD s (4 * n + k) 0) to leader → Single (λ k. getD s (3 * n + k) 0) to row → (j : ℕ) → j < to
       → nxtAt n s (leadTo n m cells (front n s) a j) ≡ nxtAt n s (leadTo n m cells (front n s) a i) → j ≡ i
   sole-place {i} {row} {target} {place} {leader} l d one-target one-place one-leader one-row j g e =
       let q : ℕ → ℕ = rowIn n (front n s) in

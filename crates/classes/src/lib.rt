@@ -10,7 +10,7 @@ ghost use Rattle.tables.specs.Table.{markOf};
 ghost use Rattle.scratch.specs.Tests.{Tested};
 ghost use Rattle.splitting.specs.Places.{front, nxtAt, keyAt, jumpAt, Filled, Span, Canon, Room, Ready};
 ghost use Rattle.classes.specs.Values.{rowIn, targetIn, placeIn, leadTo, outerBy, valuesBy, value, Alike, Sizes, Reads, Given};
-ghost use Rattle.classes.specs.Steps.{Round, First, Fault, Begun, Refined, Keyed, Goes, Part, Parts, Once, Spared, Traced, Doubled, Leaps, Settled};
+ghost use Rattle.classes.specs.Steps.{Round, First, Fault, Begun, Refined, Keyed, Goes, Part, Parts, Spared, Traced, Doubled, Leaps, Settled};
 
 // The place that stands for the target of row q at an event.
 fn place_of(n: usize, m: usize, cells: &[u16], scratch: &[u16], q: usize, a: usize) -> usize
@@ -318,23 +318,6 @@ fn part(
     }
 }
 
-// Whether a number stands once among `count` cells. There is no way out of the loop, so that it runs on many cells at a time.
-fn once(cells: &[u16], from: usize, count: usize, x: u16) -> bool
-    requires { ⌜ (from + count ≤ length (now cells)) × (count ≤ 32768) ⌝ }
-    ensures { λ r. ⌜ (r ≡ true → Once (λ i. getD (now (cells .entry)) (from + i) 0) count x) ⌝ }
-{
-    let mut found: u16 = 0;
-    let mut i = 0;
-    while i < count {
-        let y = cells[from + i];
-        i += 1;
-        if y == x {
-            found += 1;
-        }
-    }
-    found == 1
-}
-
 // Whether place i alone leads by an event to the class to which it leads: one place is of that class, and stands for one row, which is the target of one row alone.
 // Where events are many that is not worth the look.
 fn sole(n: usize, m: usize, to: usize, cells: &[u16], scratch: &[u16], a: usize, i: usize) -> bool
@@ -346,17 +329,17 @@ fn sole(n: usize, m: usize, to: usize, cells: &[u16], scratch: &[u16], a: usize,
     }
     let row = scratch[3 * n + i];
     let target = cells[rules::wide(row) * m + a];
-    if !once(cells, 0, n * m, target) {
+    if !scratch::once(cells, 0, n * m, target) {
         return false;
     }
     let place = scratch[2 * n + rules::wide(target)];
-    if !once(scratch, 2 * n, n, place) {
+    if !scratch::once(scratch, 2 * n, n, place) {
         return false;
     }
-    if !once(scratch, 4 * n, to, scratch[4 * n + rules::wide(place)]) {
+    if !scratch::once(scratch, 4 * n, to, scratch[4 * n + rules::wide(place)]) {
         return false;
     }
-    once(scratch, 3 * n, to, row)
+    scratch::once(scratch, 3 * n, to, row)
 }
 
 // Splits the class of a place by an event at which that place is unlike its leader. One of the two leads out of the class, so that the places of the

@@ -82,9 +82,10 @@ module _ (mask n m u to known last : ℕ) (cells : List ℕ) {s t : List ℕ} (s
       old-of c h (inr o) = old-to (b .hand) (d .kept) (sizes .inside) known last c h o
 
   -- After the last.
-  pub end : {w : List ℕ} {lost : ℕ} → JoiningIn mask n m u to known last cells to t w lost → Joins mask n m u to cells s w lost
-  end {w} {lost} j =
+  pub end : {w : List ℕ} {lost : ℕ} → lost ≤ to → JoiningIn mask n m u to known last cells to t w lost → Joins mask n m u to cells s w lost
+  end {w} {lost} few j =
       record {
+        few = few;
         down = j .down;
         others = λ c h ne l. ne (led-before c h (⊎-elim (λ e. e) (λ g. absurd (g (sym (j .others c h g) ∙ l))) (either c)));
         leads = λ c h e. j .leads c h (leads-now c h e);
@@ -124,6 +125,7 @@ module _ {n m to : ℕ} {cells s t : List ℕ} (fit : to ≤ n) (hand : InHand n
   pub joins-before : {mask u lost : ℕ} {w : List ℕ} → u ≤ to → Joins mask n m u to cells t w lost → Joins mask n m u to cells s w lost
   joins-before {mask} {u} {lost} {w} past j =
       record {
+        few = j .few;
         down = j .down;
         others = λ c h ne. j .others c h (λ e. ne (sym (own-same c h) ∙ e));
         leads = λ c h e. j .leads c h (own-same c h ∙ e);

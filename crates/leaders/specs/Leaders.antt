@@ -127,6 +127,7 @@ pub record Kept (n : ℕ) (s t : List ℕ) : Type 0 where
 
 -- After: each place that led at the level before has the first place of its signature for its leader; `lost` of those below u lead no more, and are listed.
 pub record Joins (mask n m u to : ℕ) (cells s t : List ℕ) (lost : ℕ) : Type 0 where
+  pub few : lost ≤ to
   pub down : (c : ℕ) → c < to → nxtAt n t c ≤ c
   pub others : (c : ℕ) → c < to → (valueAt n s (rowAt n s c) ≡ c → ⊥) → nxtAt n t c ≡ c → ⊥
   pub leads : (c : ℕ) → c < to → valueAt n s (rowAt n s c) ≡ c → nxtAt n t (nxtAt n t c) ≡ nxtAt n t c

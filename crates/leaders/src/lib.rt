@@ -282,7 +282,7 @@ fn step_all(
 ) -> usize
     requires { ⌜ Sizes n m to known (now scratch) × (u ≤ to) × (from ≤ known) ⌝ }
     ensures { λ r. ⌜ (let x = now (cells .entry) in let s = now (scratch .entry) in let t = now (scratch .exit) in
-        Kept n s t × (InHand n m to x s → JoiningIn mask n m u to known last x from s s 0 → r ≤ 1024 → JoiningIn mask n m u to known last x to s t r)) ⌝ }
+        Kept n s t × (r ≤ 1024 → r ≤ to) × (InHand n m to x s → JoiningIn mask n m u to known last x from s s 0 → r ≤ 1024 → JoiningIn mask n m u to known last x to s t r)) ⌝ }
 {
     let mut lost = 0;
     let mut i = from;

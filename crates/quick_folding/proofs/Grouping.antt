@@ -11,13 +11,13 @@ use Rattle.tables.specs.Table.{Table, weightBy, machine, eventsOf}
 use Rattle.levels.specs.Levels.{rowAt}
 use Rattle.levels.specs.Sweep.{Settled}
 use Rattle.scratch.specs.Scratch.{cleared}
-use Rattle.splitting.specs.Places.{nxtAt, Filled}
+use Rattle.splitting.specs.Places.{nxtAt, jumpAt, Filled}
 use Rattle.splitting.proofs.Frames.{filled-clear}
 use Rattle.classes.specs.Values.{valuesBy, valuesOn, Sizes, Given}
 use Rattle.classes.specs.Steps as Classes
 use Rattle.classes.proofs.Moves.{settled-from}
 use Rattle.leaders.specs.Leaders.{Kept}
-use Rattle.quick_folding.specs.Parts.{valueAt, Follows}
+use Rattle.quick_folding.specs.Parts.{valueAt, Leading, Follows}
 
 -- The table is empty.
 pub emptied : {n : ℕ} {s t : List ℕ} → n ≤ 1024 → 12 * n ≤ length s → t ≡ cleared s (9 * n) (12 * n) → Filled n (9 * n) (3 * n) (λ i. 0) s t
@@ -49,4 +49,8 @@ pub record Grouping (mask : ℕ) (T : Table) (k L i j u : ℕ) (s t₁ t₂ : Li
   pub old-led : (y : ℕ) → y < i → f (valueAt (T .rows) s (rowAt (eventsOf (weightBy mask) T) (machine T) y)) ≡ nxtAt (T .rows) t₂ (valueAt (T .rows) s (rowAt (eventsOf (weightBy mask) T) (machine T) y))
   pub follows : Follows u (u + (j - i)) (nxtAt (T .rows) t₂)
   pub calm : lost ≡ 0 → (y : ℕ) → y < i → nxtAt (T .rows) t₂ (valueAt (T .rows) s (rowAt (eventsOf (weightBy mask) T) (machine T) y)) ≡ valueAt (T .rows) s (rowAt (eventsOf (weightBy mask) T) (machine T) y)
-  pub some : 0 < lost → lost ≤ 1024 → 0 < u
+  -- The places below u that lead no more, if it is known how many they are.
+  pub many : lost ≤ 1024 → lost ≤ T .rows
+  pub losers : lost ≤ 1024 → (x : ℕ) → x < lost → Leading (T .rows) u t₂ (jumpAt (T .rows) t₂ x)
+  pub leads : lost ≤ 1024 → (x : ℕ) → x < lost → nxtAt (T .rows) t₂ (nxtAt (T .rows) t₂ (jumpAt (T .rows) t₂ x)) ≡ nxtAt (T .rows) t₂ (jumpAt (T .rows) t₂ x)
+  pub listed : lost ≤ 1024 → (c : ℕ) → Leading (T .rows) u t₂ c → (nxtAt (T .rows) t₂ c ≡ c → ⊥) → (x : ℕ) × (x < lost) × (jumpAt (T .rows) t₂ x ≡ c)

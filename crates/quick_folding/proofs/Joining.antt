@@ -29,7 +29,7 @@ use Rattle.classes.proofs.Reading.{front-read}
 use Rattle.leaders.specs.Leaders.{classAt, Same, Known, Begun, Kept, Joins}
 use Rattle.leaders.proofs.Regions.{kept-front}
 use Rattle.leaders.proofs.After.{known-still}
-use Rattle.quick_folding.specs.Parts.{valueAt, listAt, Appended, Follows}
+use Rattle.quick_folding.specs.Parts.{valueAt, listAt, Leading, Appended, Follows}
 use Rattle.quick_folding.specs.State.{Fits, Stays, Tabled, Before}
 use Rattle.quick_folding.proofs.Moves.{same-behind}
 use Rattle.quick_folding.proofs.Grouping.{Grouping}
@@ -65,7 +65,10 @@ module _ {T : Table} (mask : ℕ) {k L i j u : ℕ} {s : List ℕ} (v : Fits T k
         old-led = λ y h. refl;
         follows = record { down = d .canon .down; leads = λ c l h. d .canon .leads c h };
         calm = λ z. absurd (omega arith);
-        some = λ h l. absurd (omega arith);
+        many = λ l. absurd (omega arith);
+        losers = λ l. absurd (omega arith);
+        leads = λ l. absurd (omega arith);
+        listed = λ l. absurd (omega arith);
       }
 
   -- ---- by the table of leaders
@@ -209,6 +212,13 @@ module _ {T : Table} (mask : ℕ) {k L i j u : ℕ} {s : List ℕ} (v : Fits T k
           in-order : (y : ℕ) → y < j → y < length (order E M)
           in-order y h = omega (arith, In.bounds mask v b .3)
 
+      -- A place's leader of the level before is read as it was.
+      front-own : (c : ℕ) → c < u → valueAt n t₂ (listAt n t₂ c) ≡ own c
+      front-own c h =
+          let q = fit in
+          let p = own-old c h in
+          ap (valueAt n t₂) (kept-front f (3 * n + c) (omega arith)) ∙ kept-front f (2 * n + listAt n t₁ c) (omega (arith, p .2, at-row E M (p .0) (omega (arith, p .1, In.bounds mask v b .1, In.bounds mask v b .3))))
+
       pub by-leaders : Grouping mask T k L i j u s t₁ t₂ lost (λ c. nxtAt n t₂ (own c))
       by-leaders =
           record {
@@ -223,5 +233,10 @@ module _ {T : Table} (mask : ℕ) {k L i j u : ℕ} {s : List ℕ} (v : Fits T k
             calm = λ z y h.
                 let r = led-row y h in
                 ⊎-elim (λ g. g) (λ ne. (let x = d .listed (valueAt n s (rowAt E M y)) (r .0) (r .1) ne in absurd (omega (arith, x .1)))) (eq-or-ne (nxtAt n t₂ (valueAt n s (rowAt E M y))) (valueAt n s (rowAt E M y)));
-            some = λ h l. omega (arith, d .losers 0 h .0);
+            many = λ l. omega (arith, d .few, fit);
+            losers = λ l x h.
+                let o = d .losers x h in
+                record { place = o .0; own = front-own (jumpAt n t₂ x) (o .0) ∙ o .1 };
+            leads = λ l x h. let o = d .losers x h in d .leads (jumpAt n t₂ x) (omega (arith, o .0)) (o .1);
+            listed = λ l c o ne. d .listed c (o .place) (sym (front-own c (o .place)) ∙ o .own) ne;
           }

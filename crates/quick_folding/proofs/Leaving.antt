@@ -22,8 +22,8 @@ use Rattle.levels.proofs.Order.{at-row, one-place}
 use Rattle.levels.proofs.Borders.{border-needs}
 use Rattle.levels.proofs.Kept.{kept-stays, kept-placed, listed-old}
 use Rattle.levels.proofs.Sweep.{led-sound, labelled-next, new-fold, new-adds, new-skips, led-next, rest-all}
-use Rattle.splitting.specs.Places.{nxtAt}
-use Rattle.quick_folding.specs.Parts.{labelAt, valueAt, listAt, seats, seatOf, Appended, Still, Renewable, Renewed, still, passed, Follows, Takable, Taken}
+use Rattle.splitting.specs.Places.{nxtAt, jumpAt}
+use Rattle.quick_folding.specs.Parts.{labelAt, valueAt, listAt, seats, seatOf, Appended, Still, Leading, Renewable, Renewed, still, passed, Follows, Takable, Taken}
 use Rattle.quick_folding.specs.State.{Fits, Before, After}
 use Rattle.quick_folding.proofs.Takes.{seats-none, seats-adds, seats-stays, seats-le, seats-low, seat-old, seat-new, leader-new, seat-in}
 use Rattle.quick_folding.proofs.Grouping.{Grouping}
@@ -77,7 +77,16 @@ module _ {T : Table} (mask : ℕ) {k L i j u : ℕ} {s : List ℕ} (v : Fits T k
             let p = kept-placed E M k i c (omega (arith, b .gone .many)) in
             omega (arith, row₂ c (omega arith), listed-old E M k i j c (omega (arith, b .gone .many)), p .3, at-row E M (p .0) (p .2));
         low = low;
-        some = d .some;
+        many = d .many;
+        losers = d .losers;
+        lower = λ l x h.
+            let o = d .losers l x h .place in
+            let y = bounds .0 in
+            let z = bounds .1 in
+            let r = bounds .2 in
+            omega (arith, d .follows .down (jumpAt n t₂ x) (omega arith));
+        leads = d .leads;
+        listed = d .listed;
       }
 
   -- ---- behind `renew`
@@ -92,7 +101,7 @@ module _ {T : Table} (mask : ℕ) {k L i j u : ℕ} {s : List ℕ} (v : Fits T k
         pick : Renewed n u L lost t₂ t₃ r → (x : ℕ) → (x < 2 * n) ⊎ (((3 * n ≤ x) × (x < 5 * n)) ⊎ (6 * n ≤ x)) → getD t₃ x 0 ≡ getD t₂ x 0
         pick (still why te re) x h = ap (λ (l : List ℕ). getD l x 0) te
         pick (passed some p re) x (inl h) = p .below x h
-        pick (passed some p re) x (inr (inl h)) = p .between x (omega (arith, h .0)) (h .1)
+        pick (passed some p re) x (inr (inl h)) = p .between x (h .0) (h .1)
         pick (passed some p re) x (inr (inr h)) = p .above x h
 
     size₃ : length t₃ ≡ length s
@@ -160,25 +169,29 @@ module _ {T : Table} (mask : ℕ) {k L i j u : ℕ} {s : List ℕ} (v : Fits T k
     old-value₂ : (y : ℕ) → y < i → valueAt n t₂ (rowAt E M y) ≡ valueAt n s (rowAt E M y)
     old-value₂ y h = val₂ (rowAt E M y) (at-row E M y (omega (arith, bounds .1, bounds .3))) ∙ In.value-old mask v b a y h
 
-    still-old : Still n u t₂ → (y : ℕ) → y < i → nxtAt n t₂ (valueAt n s (rowAt E M y)) ≡ valueAt n s (rowAt E M y)
-    still-old e y h =
+    -- It led at the level before.
+    own₂ : (y : ℕ) → y < i → valueAt n t₂ (listAt n t₂ (valueAt n s (rowAt E M y))) ≡ valueAt n s (rowAt E M y)
+    own₂ y h =
         let K = level-of y h in
         let led = In.led-last mask v b (K .0) (K .1) in
         let c : ℕ = valueAt n s (rowAt E M y) in
         let l : c < length (keptTo E M k i) = led .inside y h in
         let p = kept-placed E M k i c l in
         let q : listAt n t₂ c ≡ rowAt E M (p .0) = row₂ c (omega (arith, b .gone .many)) ∙ listed-old E M k i j c l ∙ sym (p .3) in
-        e c (omega (arith, b .gone .many)) ∙ ap (valueAt n t₂) q
+        ap (valueAt n t₂) q
         ∙ val₂ (rowAt E M (p .0)) (at-row E M (p .0) (p .2)) ∙ In.value-old mask v b a (p .0) (p .1)
         ∙ led-sound led (rowAt E M (p .0)) (rowAt E M y) (p .0, p .1, refl) (y, h, refl)
         (near-sym (near-cast refl (sym (p .3)) (led .close y h)))
+
+    leading₂ : (y : ℕ) → y < i → Leading n u t₂ (valueAt n t₂ (rowAt E M y))
+    leading₂ y h = subst (Leading n u t₂) (sym (old-value₂ y h)) (record { place = value-in y h; own = own₂ y h })
 
     old-same : r ≡ true → (y : ℕ) → y < i → f (valueAt n s (rowAt E M y)) ≡ valueAt n s (rowAt E M y)
     old-same e y h = d .old-led y h ∙ pick w
       where
         pick : Renewed n u L lost t₂ t₃ r → nxtAt n t₂ (valueAt n s (rowAt E M y)) ≡ valueAt n s (rowAt E M y)
         pick (still (inl z) te re) = d .calm z y h
-        pick (still (inr z) te re) = still-old z y h
+        pick (still (inr z) te re) = z (valueAt n s (rowAt E M y)) (value-in y h) ∙ own₂ y h
         pick (passed some p re) = clash e re
 
     old-value : (y : ℕ) → y < i → valueAt n t₃ (rowAt E M y) ≡ f (valueAt n s (rowAt E M y))
@@ -187,7 +200,7 @@ module _ {T : Table} (mask : ℕ) {k L i j u : ℕ} {s : List ℕ} (v : Fits T k
         pick : Renewed n u L lost t₂ t₃ r → valueAt n t₃ (rowAt E M y) ≡ f (valueAt n s (rowAt E M y))
         pick (still why te re) = ap (λ (l : List ℕ). valueAt n l (rowAt E M y)) te ∙ old-value₂ y h ∙ sym (old-same re y h)
         pick (passed some p re) =
-            p .here (rowAt E M y) (at-row E M y (omega (arith, bounds .1, bounds .3))) ∙ ap (nxtAt n t₂) (old-value₂ y h) ∙ sym (d .old-led y h)
+            p .here (rowAt E M y) (at-row E M y (omega (arith, bounds .1, bounds .3))) (leading₂ y h) ∙ ap (nxtAt n t₂) (old-value₂ y h) ∙ sym (d .old-led y h)
 
     needs : (y : ℕ) → i ≤ y → y < j → needAt E M k (rowAt E M y) ≡ L
     needs y h g = pick L refl
@@ -329,7 +342,7 @@ module _ {T : Table} (mask : ℕ) {k L i j u : ℕ} {s : List ℕ} (v : Fits T k
           pick (still why te re) = omega (arith, ap (λ (z : List ℕ). valueAt n z q) te, o, b .gone .low q h)
           pick (passed some p re) =
               let lo = b .gone .low q h in
-              omega (arith, p .here q h, ap (nxtAt n t₂) o, d .follows .down (valueAt n s q) (omega arith))
+              ⊎-elim (λ e. omega (arith, e, o)) (λ e. omega (arith, e, ap (nxtAt n t₂) o, d .follows .down (valueAt n s q) (omega arith))) (p .any q h)
 
       low : (q : ℕ) → q < n → valueAt n t₄ q ≤ count - 1
       low q h = ⊎-elim

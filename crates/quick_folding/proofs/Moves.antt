@@ -9,7 +9,7 @@ use lib.ListN.{length, getD, drop, set, length-set}
 use lib.Seq.{getD-drop, getD-set-same, getD-set-other}
 use Rattle.scratch.proofs.Numbers.{eq-or-ne}
 use Rattle.splitting.specs.Places.{nxtAt}
-use Rattle.quick_folding.specs.Parts.{labelAt, listAt, valueAt, needCell, foldAt, Appendable, Appended, Wrote, Valued, Labels, stampAt, Relabelled, stayed, changed, Passed}
+use Rattle.quick_folding.specs.Parts.{labelAt, listAt, valueAt, needCell, foldAt, Appendable, Appended, Wrote, Valued, Labels, stampAt, Relabelled, stayed, changed, Relabelling}
 
 -- A cell behind those that may have changed.
 pub same-behind : (k : ℕ) (t s : List ℕ) → drop k t ≡ drop k s → (i : ℕ) → k ≤ i → getD t i 0 ≡ getD s i 0
@@ -102,10 +102,10 @@ wrote-next {at} {q} {f} {s} {t} x h d e =
     }
 
 -- ---- each value becomes its leader, one by one
-pub passed-none : {n level : ℕ} (s : List ℕ) → Passed n level 0 s s
-passed-none s = record { size = refl; below = λ k h. refl; between = λ k h l. refl; above = λ k h. refl; here = λ q h. absurd (omega arith); noted = λ q h. absurd (omega arith) }
+pub relabelling-none : {n level : ℕ} (s : List ℕ) → Relabelling n level 0 s s
+relabelling-none s = record { size = refl; below = λ k h. refl; between = λ k h l. refl; above = λ k h. refl; here = λ q h. absurd (omega arith); noted = λ q h. absurd (omega arith) }
 
-module _ {n level q : ℕ} {s t : List ℕ} (h : q < n) (d : Passed n level q s t) where
+module _ {n level q : ℕ} {s t : List ℕ} (h : q < n) (d : Relabelling n level q s t) where
   -- What is read of row q.
   pub value-still : valueAt n t q ≡ valueAt n s q
   value-still = d .between (2 * n + q) (omega arith) (omega arith)
@@ -113,8 +113,8 @@ module _ {n level q : ℕ} {s t : List ℕ} (h : q < n) (d : Passed n level q s 
   next-still : valueAt n s q < n → nxtAt n t (valueAt n t q) ≡ nxtAt n s (valueAt n s q)
   next-still l = ap (nxtAt n t) value-still ∙ d .between (4 * n + valueAt n s q) (omega arith) (omega arith)
 
-  pub passed-next : {w : List ℕ} → 6 * n ≤ length s → valueAt n s q < n → Relabelled n level q t w → Passed n level (q + 1) s w
-  passed-next {w} room l (stayed e te) =
+  pub relabelling-next : {w : List ℕ} → 12 * n ≤ length s → valueAt n s q < n → Relabelled n level q t w → Relabelling n level (q + 1) s w
+  relabelling-next {w} room l (stayed e te) =
       record {
         size = ap length te ∙ d .size;
         below = λ k g. cell k ∙ d .below k g;
@@ -127,7 +127,7 @@ module _ {n level q : ℕ} {s t : List ℕ} (h : q < n) (d : Passed n level q s 
     where
       cell : (k : ℕ) → getD w k 0 ≡ getD t k 0
       cell k = ap (λ (x : List ℕ). getD x k 0) te
-  passed-next {w} room l (changed te) =
+  relabelling-next {w} room l (changed te) =
       record {
         size = ap length te ∙ set2-size t a v b level ∙ d .size;
         below = λ k g. other k (λ e. omega arith) (λ e. omega arith) ∙ d .below k g;

@@ -16,7 +16,7 @@ use Rattle.levels.proofs.Order.{at-row}
 use Rattle.splitting.specs.Places.{nxtAt}
 use Rattle.leaders.specs.Leaders.{Known, Begun, Joins}
 use Rattle.leaders.proofs.After.{known-none, known-next}
-use Rattle.quick_folding.specs.Parts.{valueAt, listAt, stampAt, Appended, Still, Renewed, still, passed, Taken}
+use Rattle.quick_folding.specs.Parts.{valueAt, listAt, stampAt, Leading, Appended, Still, Renewed, still, passed, Taken}
 use Rattle.quick_folding.specs.State.{Fits, Stays, Tabled, Before}
 use Rattle.quick_folding.specs.Grouping.{Grouped, joined, split, Tells, empty, calm, moved}
 use Rattle.quick_folding.proofs.Grouping.{Grouping}
@@ -72,16 +72,21 @@ module _ {T : Table} (mask : ℕ) {k L i j u : ℕ} {s : List ℕ} (v : Fits T k
         at : own mask v b a K e c < u
         at = omega (arith, own-low mask v b a K e c (omega arith))
 
-        quiet : (lost ≡ 0) ⊎ Still n u t₂ → nxtAt n t₂ (own mask v b a K e c) ≡ own mask v b a K e c
-        quiet (inl z) = ap (nxtAt n t₂) (p .3) ∙ d .calm z (p .0) (p .1) ∙ sym (p .3)
-        quiet (inr z) =
-            z (own mask v b a K e c) at ∙ ap (valueAt n t₂) (d .front (3 * n + own mask v b a K e c) (omega (arith, at, bounds .0, bounds .1, bounds .2)))
+        own₂ : valueAt n t₂ (listAt n t₂ (own mask v b a K e c)) ≡ own mask v b a K e c
+        own₂ =
+            ap (valueAt n t₂) (d .front (3 * n + own mask v b a K e c) (omega (arith, at, bounds .0, bounds .1, bounds .2)))
             ∙ value₂ (listAt n t₁ (own mask v b a K e c)) (let y = own-old mask v b a K e (own mask v b a K e c) at in omega (arith, y .2, at-row E M (y .0) (omega (arith, y .1, In.bounds mask v b .3, bounds .1))))
             ∙ own-own mask v b a K e c (omega arith)
 
+        quiet : (lost ≡ 0) ⊎ Still n u t₂ → nxtAt n t₂ (own mask v b a K e c) ≡ own mask v b a K e c
+        quiet (inl z) = ap (nxtAt n t₂) (p .3) ∙ d .calm z (p .0) (p .1) ∙ sym (p .3)
+        quiet (inr z) = z (own mask v b a K e c) at ∙ own₂
+
         pick : Renewed n u L lost t₂ t₃ r → valueAt n t₃ (listAt n t₁ c) ≡ nxtAt n t₂ (own mask v b a K e c)
         pick (still why te re) = ap (λ (l : List ℕ). valueAt n l (listAt n t₁ c)) te ∙ value₂ (listAt n t₁ c) inside ∙ sym (quiet why)
-        pick (passed some q re) = q .here (listAt n t₁ c) inside ∙ ap (nxtAt n t₂) (value₂ (listAt n t₁ c) inside)
+        pick (passed some q re) =
+            q .here (listAt n t₁ c) inside (subst (Leading n u t₂) (sym (value₂ (listAt n t₁ c) inside)) (record { place = at; own = own₂ }))
+            ∙ ap (nxtAt n t₂) (value₂ (listAt n t₁ c) inside)
 
     -- The value of an old row stays, or the level is noted.
     stamped : (last : ℕ) → (r ≡ false → last ≡ L) → (q : ℕ) → Placed E M i q → (valueAt n t₄ q ≡ valueAt n t₁ q) ⊎ (stampAt n t₄ q ≡ last)

@@ -74,23 +74,32 @@ Valued n = Wrote (2 * n)
 abbrev pub Still : ℕ → ℕ → List ℕ → Type 0
 Still n u s = (c : ℕ) → c < u → nxtAt n s c ≡ valueAt n s (listAt n s c)
 
--- Room for the leaders of places, and values that are places. `lost` places below u have lost their lead, if that is known: if the number is at most 1,024.
+-- Place c led at the level before: it is one of the first u, and the value of its own row.
+pub record Leading (n u : ℕ) (s : List ℕ) (c : ℕ) : Type 0 where
+  pub place : c < u
+  pub own : valueAt n s (listAt n s c) ≡ c
+
+-- Room for the leaders of places, and values that are places. `lost` places below u have lost their lead, if that is known: if the number is at most 1,024; then they are listed in region 7.
 pub record Renewable (n u level lost : ℕ) (s : List ℕ) : Type 0 where
   pub few : n ≤ 1024
-  pub room : 6 * n ≤ length s
+  pub room : 12 * n ≤ length s
   pub values : (q : ℕ) → q < n → valueAt n s q < n
   pub fits : u ≤ n
   pub rows : (c : ℕ) → c < u → listAt n s c < n
   pub low : level ≤ 65535
-  pub some : 0 < lost → lost ≤ 1024 → 0 < u
+  pub many : lost ≤ 1024 → lost ≤ n
+  pub losers : lost ≤ 1024 → (x : ℕ) → x < lost → Leading n u s (jumpAt n s x)
+  pub lower : lost ≤ 1024 → (x : ℕ) → x < lost → nxtAt n s (jumpAt n s x) < n
+  pub leads : lost ≤ 1024 → (x : ℕ) → x < lost → nxtAt n s (nxtAt n s (jumpAt n s x)) ≡ nxtAt n s (jumpAt n s x)
+  pub listed : lost ≤ 1024 → (c : ℕ) → Leading n u s c → (nxtAt n s c ≡ c → ⊥) → (x : ℕ) × (x < lost) × (jumpAt n s x ≡ c)
 
 -- The value of row q has become its leader, and the level is noted where that is another.
 pub data Relabelled (n level q : ℕ) (s t : List ℕ) : Type 0 where
   stayed : nxtAt n s (valueAt n s q) ≡ valueAt n s q → t ≡ s → Relabelled n level q s t
   changed : t ≡ set (set s (2 * n + q) (nxtAt n s (valueAt n s q))) (5 * n + q) level → Relabelled n level q s t
 
--- The same of the rows below `count`.
-pub record Passed (n level count : ℕ) (s t : List ℕ) : Type 0 where
+-- The same of all rows below `count`.
+pub record Relabelling (n level count : ℕ) (s t : List ℕ) : Type 0 where
   pub size : length t ≡ length s
   pub below : (k : ℕ) → k < 2 * n → getD t k 0 ≡ getD s k 0
   pub between : (k : ℕ) → 2 * n + count ≤ k → k < 5 * n → getD t k 0 ≡ getD s k 0
@@ -98,10 +107,33 @@ pub record Passed (n level count : ℕ) (s t : List ℕ) : Type 0 where
   pub here : (q : ℕ) → q < count → valueAt n t q ≡ nxtAt n s (valueAt n s q)
   pub noted : (q : ℕ) → q < count → (valueAt n t q ≡ valueAt n s q) ⊎ (stampAt n t q ≡ level)
 
+-- The same of the rows that the first x places on the list led: no other row had such a value.
+pub record Losing (n level x : ℕ) (s t : List ℕ) : Type 0 where
+  pub size : length t ≡ length s
+  pub below : (k : ℕ) → k < 2 * n → getD t k 0 ≡ getD s k 0
+  pub between : (k : ℕ) → 3 * n ≤ k → k < 5 * n → getD t k 0 ≡ getD s k 0
+  pub above : (k : ℕ) → 6 * n ≤ k → getD t k 0 ≡ getD s k 0
+  pub gone : (q y : ℕ) → q < n → y < x → valueAt n s q ≡ jumpAt n s y → valueAt n t q ≡ nxtAt n s (valueAt n s q)
+  pub any : (q : ℕ) → q < n → (valueAt n t q ≡ valueAt n s q) ⊎ ((valueAt n t q ≡ nxtAt n s (valueAt n s q)) × (stampAt n t q ≡ level))
+
+-- No two rows have the value of one of the `lost` places on the list.
+abbrev pub Alone : ℕ → ℕ → List ℕ → Type 0
+Alone n lost s = (x q p : ℕ) → x < lost → q < n → p < n → valueAt n s q ≡ jumpAt n s x → valueAt n s p ≡ jumpAt n s x → q ≡ p
+
+-- Each value that is a place that led has become its leader, and the level is noted where that is another.
+pub record Passed (n u level : ℕ) (s t : List ℕ) : Type 0 where
+  pub size : length t ≡ length s
+  pub below : (k : ℕ) → k < 2 * n → getD t k 0 ≡ getD s k 0
+  pub between : (k : ℕ) → 3 * n ≤ k → k < 5 * n → getD t k 0 ≡ getD s k 0
+  pub above : (k : ℕ) → 6 * n ≤ k → getD t k 0 ≡ getD s k 0
+  pub here : (q : ℕ) → q < n → Leading n u s (valueAt n s q) → valueAt n t q ≡ nxtAt n s (valueAt n s q)
+  pub any : (q : ℕ) → q < n → (valueAt n t q ≡ valueAt n s q) ⊎ (valueAt n t q ≡ nxtAt n s (valueAt n s q))
+  pub noted : (q : ℕ) → q < n → (valueAt n t q ≡ valueAt n s q) ⊎ (stampAt n t q ≡ level)
+
 -- Unless all is still, each value has become its leader.
 pub data Renewed (n u level lost : ℕ) (s t : List ℕ) (r : Bool) : Type 0 where
   still : (lost ≡ 0) ⊎ Still n u s → t ≡ s → r ≡ true → Renewed n u level lost s t r
-  passed : 0 < u → Passed n level n s t → r ≡ false → Renewed n u level lost s t r
+  passed : 0 < u → Passed n u level s t → r ≡ false → Renewed n u level lost s t r
 
 -- The label of each row that has a lead is a place.
 pub record Labels (n : ℕ) (s : List ℕ) : Type 0 where

@@ -12,7 +12,7 @@ ghost use Rattle.scratch.specs.Folds.{Folds};
 ghost use Rattle.classes.specs.Values.{valuesBy, Given};
 ghost use Rattle.leaders.specs.Leaders.{Sizes, Begun, Kept, Joins};
 ghost use Rattle.levels.specs.Levels.{far as farOf};
-ghost use Rattle.quick_folding.specs.Parts.{valueAt, listAt, needCell, foldAt, Appendable, Appended, Valued, Still, Renewable, Relabelled, Passed, Renewed, Seated, Seating, Takable, Taken, Searching, Until, Onward, Labels, Staying, StaysAt};
+ghost use Rattle.quick_folding.specs.Parts.{valueAt, listAt, needCell, foldAt, Appendable, Appended, Valued, Still, Renewable, Relabelled, Relabelling, Losing, Alone, Renewed, Seated, Seating, Takable, Taken, Searching, Until, Onward, Labels, Staying, StaysAt};
 ghost use Rattle.quick_folding.specs.State.{Fits, Stays, Tabled, Laid, Apart, Before, After, Going, Folded};
 ghost use Rattle.quick_folding.specs.Grouping.{Grouped, Tells};
 ghost use Rattle.quick_folding.specs.Parting.{Aparts};
@@ -65,7 +65,7 @@ fn quiet(scratch: &[u16], n: usize, u: usize, level: usize, lost: usize) -> bool
 
 // The value of row q becomes its leader, and the level is noted where that is another.
 fn relabel_row(scratch: &mut [u16], n: usize, level: usize, q: usize)
-    requires { ⌜ (n ≤ 1024) × (6 * n ≤ length (now scratch)) × (level ≤ 65535) × (q < n) × (valueAt n (now scratch) q < n) ⌝ }
+    requires { ⌜ (n ≤ 1024) × (12 * n ≤ length (now scratch)) × (level ≤ 65535) × (q < n) × (valueAt n (now scratch) q < n) ⌝ }
     ensures { λ _. ⌜ Relabelled n level q (now (scratch .entry)) (now (scratch .exit)) ⌝ }
 {
     let v = scratch[2 * n + q];
@@ -78,14 +78,46 @@ fn relabel_row(scratch: &mut [u16], n: usize, level: usize, q: usize)
 }
 
 // Each value becomes its leader.
-fn relabel(scratch: &mut [u16], n: usize, level: usize)
-    requires { ⌜ Renewable n 0 level 0 (now scratch) ⌝ }
-    ensures { λ r. ⌜ Passed n level n (now (scratch .entry)) (now (scratch .exit)) ⌝ }
+fn relabel(scratch: &mut [u16], n: usize, u: usize, level: usize, lost: usize)
+    requires { ⌜ Renewable n u level lost (now scratch) ⌝ }
+    ensures { λ _. ⌜ Relabelling n level n (now (scratch .entry)) (now (scratch .exit)) ⌝ }
 {
     let mut q = 0;
     while q < n {
         relabel_row(scratch, n, level, q);
         q += 1;
+    }
+}
+
+// Whether few places have lost their lead, and each led its own row alone: then there is no need to look at all rows.
+fn few_alone(scratch: &[u16], n: usize, u: usize, level: usize, lost: usize) -> bool
+    requires { ⌜ Renewable n u level lost (now scratch) ⌝ }
+    ensures { λ r. ⌜ (r ≡ true → (lost ≤ 1024) × Alone n lost (now (scratch .entry))) ⌝ }
+{
+    if 8 < lost {
+        return false;
+    }
+    let mut x = 0;
+    while x < lost {
+        if !scratch::once(scratch, 2 * n, n, scratch[7 * n + x]) {
+            return false;
+        }
+        x += 1;
+    }
+    true
+}
+
+// The value of the row that each of them led becomes the leader.
+fn relabel_lost(scratch: &mut [u16], n: usize, u: usize, level: usize, lost: usize)
+    requires { ⌜ Renewable n u level lost (now scratch) × (lost ≤ 1024) × Alone n lost (now scratch) ⌝ }
+    ensures { λ _. ⌜ Losing n level lost (now (scratch .entry)) (now (scratch .exit)) ⌝ }
+{
+    let mut x = 0;
+    while x < lost {
+        let z = rules::wide(scratch[7 * n + x]);
+        let row = rules::wide(scratch[3 * n + z]);
+        relabel_row(scratch, n, level, row);
+        x += 1;
     }
 }
 
@@ -97,7 +129,11 @@ fn renew(scratch: &mut [u16], n: usize, u: usize, level: usize, lost: usize) -> 
     if quiet(scratch, n, u, level, lost) {
         return true;
     }
-    relabel(scratch, n, level);
+    if few_alone(scratch, n, u, level, lost) {
+        relabel_lost(scratch, n, u, level, lost);
+        return false;
+    }
+    relabel(scratch, n, u, level, lost);
     false
 }
 

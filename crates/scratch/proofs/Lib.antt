@@ -3,3 +3,4 @@ pub mod Cells
 pub mod Works
 pub mod Soundness
 pub mod Order
+pub mod Tallies

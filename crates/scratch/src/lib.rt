@@ -4,6 +4,7 @@ ghost use Prim.Native.Nat.{_+_, _*_};
 ghost use lib.ListN.{getD, set};
 ghost use Rattle.rules.specs.Rules.{tableOf, judged, winch, tableChecks};
 ghost use Rattle.scratch.specs.Scratch.{cleared, fine};
+ghost use Rattle.scratch.specs.Tests.{Tested, Once};
 
 // A cell; 0 beyond the last.
 pub fn cell(cells: &[u16], at: usize) -> u16
@@ -46,6 +47,31 @@ pub fn clear(cells: &mut [u16], from: usize, to: usize)
         cells[i] = 0;
         i += 1;
     }
+}
+
+// Whether there are `count` cells from a place on, no more than 65,535, and just one of them holds x. There is no way out of the loop, so that it runs on many cells at a time.
+pub fn once(cells: &[u16], from: usize, count: usize, x: u16) -> bool
+    ensures { λ r. ⌜ Tested r (Once from count x (now (cells .entry))) ⌝ }
+{
+    if cells.len() < count {
+        return false;
+    }
+    if cells.len() - count < from {
+        return false;
+    }
+    if 65535 < count {
+        return false;
+    }
+    let mut found: u16 = 0;
+    let mut i = 0;
+    while i < count {
+        let y = cells[from + i];
+        i += 1;
+        if y == x {
+            found += 1;
+        }
+    }
+    found == 1
 }
 
 // Whether a table breaks none of the rules 1 to 6.

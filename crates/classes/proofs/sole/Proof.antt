@@ -4,6 +4,7 @@ use mathlib.Core.Bool.{false≢true}
 use native.Mathlib.Nat.{mul-le-mul-right}
 use borrow.Author.Tests.{not-false}
 use lib.ListN.{getD, length}
+use Rattle.scratch.proofs.Tallies.{tally-one}
 use Rattle.splitting.specs.Places.{front, nxtAt}
 use Rattle.classes.specs.Values.{rowIn, targetIn, leadTo}
 use Rattle.classes.proofs.Reading.{front-read, row-is, cell-in}
@@ -40,12 +41,6 @@ shared-slice-read-target c = cell (c .before)
 
 mul-once : tie.Need-mul-once
 mul-once c = omega (arith, c .before .before .before .before .before .before .pre .0 .all-cells)
-
-once-requires : tie.Need-once-requires
-once-requires c κs =
-    let a = c .before .before .before .before .before .before .args in
-    let z = c .before .before .before .before .before .before .pre .0 in
-    (omega (arith, z .all-cells), omega (arith, mul-le-mul-right (a .m) (z .few), z .events))
 
 returns-2 : tie.Need-returns-2
 returns-2 c e = absurd (false≢true e)
@@ -96,10 +91,10 @@ returns-5 c e =
     let p = c .before .before .before .before .before .before .before .before .before .before .before .before .before .before .before .before .before .pre in
     sole-place (p .0) (p .1) (a .a) (p .2) (p .3)
     (record { row-is = sym (c .before .before .before .before .before .before .before .before .before .before .before .before .wide .ensures) ∙ row (c .before .before .before .before .before .before .before .before .before .before .before .before); target-is = sym (c .before .before .before .before .before .before .before .before .wide2 .ensures) ∙ target (c .before .before .before .before .before .before .before .before); place-is = sym (c .before .before .before .before .wide3 .ensures) ∙ place (c .before .before .before .before); leader-is = ap (nxtAt (a .n) (a .scratch .now)) (place (c .before .before .before .before)) })
-    (c .before .before .before .before .before .before .before .before .before .before .once .ensures (not-false _ (c .before .before .before .before .before .before .before .before .before .if2 .left)))
-    (c .before .before .before .before .before .before .once2 .ensures (not-false _ (c .before .before .before .before .before .if3 .left)))
-    (c .before .before .once3 .ensures (not-false _ (c .before .if4 .left)))
-    (c .once4 .ensures e)
+    (tally-one _ _ _ _ (c .before .before .before .before .before .before .before .before .before .before .once .ensures .holds (not-false _ (c .before .before .before .before .before .before .before .before .before .if2 .left)) .one))
+    (tally-one _ _ _ _ (c .before .before .before .before .before .before .once2 .ensures .holds (not-false _ (c .before .before .before .before .before .if3 .left)) .one))
+    (tally-one _ _ _ _ (c .before .before .once3 .ensures .holds (not-false _ (c .before .if4 .left)) .one))
+    (tally-one _ _ _ _ (c .once4 .ensures .holds e .one))
 
 pub sole-spec : {M : Type 1} → statement M
 sole-spec =
@@ -116,7 +111,7 @@ sole-spec =
     mul-target-2
     shared-slice-read-target
     mul-once
-    once-requires
+    (λ c κs. search needs)
     returns-2
     (λ c. search needs)
     (λ c κs. search needs)

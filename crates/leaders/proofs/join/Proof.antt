@@ -31,7 +31,7 @@ returns-2 c =
     let e = c .before .before .step-all .ensures in (
       kept-then (d .kept) (e .0),
       λ z f b h.
-          end (a .mask) (a .n) (a .m) (a .u) (a .to) (a .known) (a .last) (a .cells .now) z f b d (e .1 (hand-still (b .hand) (d .kept) (z .inside))
+          end (a .mask) (a .n) (a .m) (a .u) (a .to) (a .known) (a .last) (a .cells .now) z f b d (e .1 h) (e .2 (hand-still (b .hand) (d .kept) (z .inside))
           (begin (a .mask) (a .n) (a .m) (a .u) (a .to) (a .known) (a .last) (a .cells .now) z f b d _ (⊎-elim (λ w. omega arith) (λ w. omega arith) (c .before .before .before .before .if2 .came)) (λ x l. ⊎-elim (λ w. calm-above (a .n) (a .m) (a .last) (a .known) (a .cells .now) (c .before .before .before .before .before .before .before .seed .last .0) (omega arith) (λ y. omega (arith, c .before .before .before .before .before .slice-known2 .given y)) x (omega arith)) (λ w. absurd (omega arith)) (c .before .before .before .before .if2 .came))) h),
     )
 

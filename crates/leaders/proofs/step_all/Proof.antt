@@ -33,7 +33,7 @@ returns : tie.Need-returns Inv-loop μ-loop
 returns c =
     let p = c .before .before .before .before .before .before .before .before .before .pre in
     let l = c .before .before .before .before .before .before .loop .inv in
-    (kept-then (l .3) (step-kept (p .0 .inside) (c .before .before .before .before .before .loop-test .taken) (l .2) (c .before .before .before .step .ensures)), λ h j g. absurd (omega arith))
+    (kept-then (l .3) (step-kept (p .0 .inside) (c .before .before .before .before .before .loop-test .taken) (l .2) (c .before .before .before .step .ensures)), λ g. absurd (omega arith), λ h j g. absurd (omega arith))
 
 loop-again : tie.Need-loop-again Inv-loop μ-loop
 loop-again c =
@@ -56,7 +56,7 @@ returns-2 c =
     let a = c .before .before .before .before .args in
     let l = c .before .loop in
     let e : l .i ≡ a .to = omega arith in
-    (l .inv .3, λ h j g. subst (λ (x : ℕ). JoiningIn (a .mask) (a .n) (a .m) (a .u) (a .to) (a .known) (a .last) (a .cells .now) x (a .scratch .now) (l .scratch) (l .lost)) e (l .inv .4 h j))
+    (l .inv .3, λ g. omega (arith, l .inv .2, l .inv .1), λ h j g. subst (λ (x : ℕ). JoiningIn (a .mask) (a .n) (a .m) (a .u) (a .to) (a .known) (a .last) (a .cells .now) x (a .scratch .now) (l .scratch) (l .lost)) e (l .inv .4 h j))
 
 pub step-all-spec : {M : Type 1} → statement M
 step-all-spec =

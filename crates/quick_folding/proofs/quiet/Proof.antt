@@ -9,7 +9,7 @@ returns : tie.Need-returns
 returns c = (λ e. inl (c .if1 .taken), λ e. absurd (true≢false e))
 
 returns-2 : tie.Need-returns-2
-returns-2 c = (λ e. absurd (false≢true e), λ e. c .before .before .before .pre .some (omega arith) (omega arith))
+returns-2 c = (λ e. absurd (false≢true e), λ e. omega (arith, c .before .before .before .pre .losers (omega arith) 0 (omega arith) .place))
 
 returns-3 : tie.Need-returns-3
 returns-3 c = (λ e. inr (c .still .ensures .0 e), c .still .ensures .1)

@@ -52,14 +52,18 @@ returns-2 c =
     let a = c .before .before .before .before .before .before .before .before .before .before .before .before .args in
     let p = c .before .before .before .before .before .before .before .before .before .before .before .before .pre in
     let e = c .before .before .before .before .before .before .before .any-level .ensures in
-    let d = c .before .before .before .note-losses .ensures in
-    (noted-apart (a .mask) (p .0) (p .1) (p .2) (e .0) d, parted-at (e .2) (kept-same (a .mask) (p .0) (p .1) (p .2) (e .0) d) (parted-next (a .mask) (p .0) (p .1) (p .2) (e .0) d), e .1 ∙ p .2, omega (arith, e .2), omega (arith, e .2, p .3),
-    tabled-noted (a .mask) (p .0) (p .1) (p .2) (e .0) d (e .3))
+    let d = c .before .before .before .note-losses .ensures in (
+      noted-apart (a .mask) (p .0) (p .1) (p .2) (e .0) d,
+      parted-at (e .2) (kept-same (a .mask) (p .0) (p .1) (p .2) (e .0) d) (parted-next (a .mask) (p .0) (p .1) (p .2) (e .0) d),
+      e .1 ∙ p .2,
+      omega (arith, e .2),
+      omega (arith, e .2, p .3),
+      tabled-noted (a .mask) (p .0) (p .1) (p .2) (e .0) d (e .3),
+    )
 
 pub part-level-spec : {M : Type 1} → statement M
 part-level-spec =
     tie.close
-    
     (tie.spec
     add-level
     any-level-requires
