@@ -1,5 +1,5 @@
 // Times the compiled reducer, both ways, beside OpenFst's Minimize on the same tables, in one run, and prints tables of microseconds and ratios in Markdown.
-// A ratio is the reducer's time over OpenFst's: below 1 the reducer is faster. What each load is stands in docs/BENCH.md.
+// A ratio is the reducer's time over OpenFst's: below 1 the reducer is faster. The sheet stands beside one reduction. What each load is stands in docs/BENCH.md.
 #include <fst/fstlib.h>
 
 #include <algorithm>
@@ -15,11 +15,14 @@
 extern "C" {
 void gelfost_generate(uint32_t seed, size_t rows, size_t events, uint16_t *cells, size_t cells_len, uint8_t *marks, size_t marks_len,
                       size_t answer[4]);
-// The first way if `second` is 0, else the second (bench/recorded.part).
+// Both of bench/recorded.part: the reduction, the first way if `second` is 0, else the second; and the fewest rows at every offset.
 void gelfost_reduce_recorded(uint32_t second, uint32_t offset, uint32_t mask, size_t rows, size_t events, size_t start,
                              const uint16_t *cells, size_t cells_len, const uint8_t *marks, size_t marks_len, uint16_t *new_cells,
                              size_t new_cells_len, uint8_t *new_marks, size_t new_marks_len, uint16_t *scratch, size_t scratch_len,
                              size_t answer[4]);
+void gelfost_sheet_wide(uint32_t mask, size_t rows, size_t events, size_t start, const uint16_t *cells, size_t cells_len,
+                        const uint8_t *marks, size_t marks_len, uint16_t *list, size_t list_len, uint16_t *scratch, size_t scratch_len,
+                        size_t answer[4]);
 }
 
 namespace {
@@ -192,17 +195,30 @@ struct Lent {
     Lent(const Table &table, uint32_t way) : cells(table.cells.size()), marks(table.marks.size()), scratch(needed(way, table.rows)) {}
 };
 
+// The mask in which the first `counted` events count.
+uint32_t mask_of(size_t counted) { return counted < 32 ? (uint32_t{1} << counted) - 1 : UINT32_MAX; }
+
 // Seconds of the whole call, with its checks, the records and the clearing of the scratch; `counted` events count.
 double reduce(uint32_t way, const Table &table, size_t counted, uint32_t offset, Lent &lent, size_t &rows) {
-    uint32_t mask = counted < 32 ? (uint32_t{1} << counted) - 1 : UINT32_MAX;
     size_t answer[4];
     double took = seconds([&] {
-        gelfost_reduce_recorded(way, offset, mask, table.rows, table.events, 0, table.cells.data(), table.cells.size(),
+        gelfost_reduce_recorded(way, offset, mask_of(counted), table.rows, table.events, 0, table.cells.data(), table.cells.size(),
                                 table.marks.data(), table.marks.size(), lent.cells.data(), lent.cells.size(), lent.marks.data(),
                                 lent.marks.size(), lent.scratch.data(), lent.scratch.size(), answer);
     });
     if (answer[0]) fail("the reducer refused by rule " + std::to_string(answer[0]));
     rows = answer[1];
+    return took;
+}
+
+// Seconds of the fewest rows at every offset, the whole call too; the scratch is that of the first way.
+double write_sheet(const Table &table, size_t counted, std::vector<uint16_t> &list, std::vector<uint16_t> &scratch) {
+    size_t answer[4];
+    double took = seconds([&] {
+        gelfost_sheet_wide(mask_of(counted), table.rows, table.events, 0, table.cells.data(), table.cells.size(), table.marks.data(),
+                           table.marks.size(), list.data(), list.size(), scratch.data(), scratch.size(), answer);
+    });
+    if (answer[0]) fail("the sheet was refused by rule " + std::to_string(answer[0]));
     return took;
 }
 
@@ -222,29 +238,34 @@ size_t lost_rows(const Lent &lent, size_t rows, size_t events) {
 struct Load {
     const char *name;
     Table (*make)(size_t rows, size_t events);
+    bool half_idle = false;
 };
 
-// OpenFst's seconds, and by way and offset the rows that are left and the seconds.
+// OpenFst's seconds, those of the sheet, and by way and offset the rows that are left and the seconds.
 struct Times {
-    double theirs = 1e9, ours[2][4];
+    double theirs = 1e9, sheet = 1e9, ours[2][4];
     size_t left[2][4];
 };
 
-// Best of so many, all in turn, so that what else the machine does falls on all of them alike. Both ways must leave as many rows, and as many as OpenFst at offset 0 where every event counts.
+// Best of so many, all in turn, so that what else the machine does falls on all of them alike. Both ways must leave as many rows, as many as OpenFst at offset 0 where every event counts, and as many as the sheet says.
+// A sheet that takes above 0.1 s is taken at most three times.
 Times time_table(const Table &table, size_t counted, int repeats) {
     const uint32_t offsets[4] = {0, 10, static_cast<uint32_t>(4 * table.rows / 3), no_offset};
     Times times;
     for (auto &of_way : times.ours) std::fill(of_way, of_way + 4, 1e9);
     size_t states = 0;
     Lent lent[2] = {Lent(table, 0), Lent(table, 1)};
+    std::vector<uint16_t> list(2 * table.rows + 1);
     for (int i = 0; i < repeats; i++) {
         times.theirs = std::min(times.theirs, minimize(table, states));
+        if (i < 3 || times.sheet <= 0.1) times.sheet = std::min(times.sheet, write_sheet(table, counted, list, lent[0].scratch));
         for (int k = 0; k < 4; k++) {
             for (uint32_t way = 0; way < 2; way++)
                 times.ours[way][k] = std::min(times.ours[way][k], reduce(way, table, counted, offsets[k], lent[way], times.left[way][k]));
             if (times.left[0][k] != times.left[1][k]) fail("the two ways differ in rows");
             if (k == 0 && counted == table.events && times.left[1][0] != states + lost_rows(lent[1], times.left[1][0], table.events))
                 fail("reducer and OpenFst differ in rows");
+            if (times.left[1][k] != list[std::min<size_t>(offsets[k], 2 * table.rows)]) fail("reducer and sheet differ in rows");
         }
     }
     return times;
@@ -267,15 +288,23 @@ void print_times(const char *name, const Table &table, const Times &times) {
     std::fflush(stdout);
 }
 
-// The loads at three sizes, and how much a doubling of the rows costs the second way at its dearest.
-void time_loads(int repeats) {
+// A line of the sheets' table.
+std::string sheet_line(const char *name, size_t events, const Times &times) {
+    char numbers[96];
+    std::snprintf(numbers, sizeof numbers, " | %zu | %.0f | %.0f | %.1f |\n", events, 1e6 * times.ours[1][3], 1e6 * times.sheet,
+                  times.sheet / times.ours[1][3]);
+    return "| " + std::string(name) + numbers;
+}
+
+// The loads at three sizes, and how much a doubling of the rows costs the second way at its dearest. Answers the lines of their sheets at 1,024 rows.
+std::string time_loads(int repeats) {
     const Load loads[] = {{"random", random_table},
                           {"stated load", stated_load},
                           {"chain", chain},
                           {"chain, random tail", chain_with_random_tail},
                           {"cycle", cycle}};
     print_head("load");
-    std::string growth;
+    std::string growth, sheets;
     for (const Load &load : loads)
         for (size_t events : {1, 4, 32}) {
             growth += "| " + std::string(load.name) + " | " + std::to_string(events) + " |";
@@ -290,6 +319,7 @@ void time_loads(int repeats) {
                     std::snprintf(factor, sizeof factor, " %.1f |", times.ours[1][k] / before.ours[1][k]);
                     growth += factor;
                 }
+                if (rows == 1024) sheets += sheet_line(load.name, events, times);
                 before = times;
             }
             growth += "\n";
@@ -298,23 +328,30 @@ void time_loads(int repeats) {
     for (const char *size : {"512", "1,024"})
         for (const char *offset : {"0", "10", "4 rows / 3", "none"}) std::printf(" to %s, at %s |", size, offset);
     std::printf("\n|---|---|---|---|---|---|---|---|---|---|\n%s", growth.c_str());
+    return sheets;
 }
 
-// The hard shapes at 1,024 rows; of the last one only half the events count, so that idle events move rows.
-void time_shapes(int repeats) {
+// The hard shapes at 1,024 rows; of the last two only half the events count, so that idle events move rows. Answers the lines of their sheets.
+std::string time_shapes(int repeats) {
     const Load shapes[] = {{"chain, random marks", chain_with_random_marks},
                            {"chain on an endless chain", chain_on_endless_chain},
+                           {"chain on a random table", chain_with_random_tail},
                            {"pattern", pattern},
                            {"shuffled pattern", shuffled_pattern},
                            {"deep and dense", deep_and_dense},
-                           {"stated load, half the events idle", stated_load}};
+                           {"stated load, half the events idle", stated_load, true},
+                           {"chain on an endless chain, half the events idle", chain_on_endless_chain, true}};
     print_head("shape");
+    std::string sheets;
     for (const Load &shape : shapes)
         for (size_t events : {2, 32}) {
             std::fprintf(stderr, "bench: %s, %zu events\n", shape.name, events);
             const Table table = shape.make(1024, events);
-            print_times(shape.name, table, time_table(table, shape.make == stated_load ? events / 2 : events, repeats));
+            const Times times = time_table(table, shape.half_idle ? events / 2 : events, repeats);
+            print_times(shape.name, table, times);
+            sheets += sheet_line(shape.name, events, times);
         }
+    return sheets;
 }
 
 }  // namespace
@@ -322,6 +359,8 @@ void time_shapes(int repeats) {
 int main(int count, char **words) {
     int repeats = count > 1 ? std::atoi(words[1]) : 25;
     if (repeats < 1) fail("usage: bench [REPEATS]");
-    time_loads(repeats);
-    time_shapes(repeats);
+    std::string sheets = time_loads(repeats);
+    sheets += time_shapes(repeats);
+    std::printf("\n| load or shape at 1,024 rows | events | reduction | sheet | sheet over reduction |\n|---|---|---|---|---|\n%s",
+                sheets.c_str());
 }
