@@ -5,6 +5,7 @@ use offsets::Listed;
 use printing::put_cells;
 use printing::put_line;
 
+// Puts what is answered.
 fn put_answer(out: &mut [u8], at: usize, answer: Listed) -> usize {
     match answer {
         Listed::Entries(n) => put_line(out, at, b"entries", &[n]),
@@ -12,6 +13,7 @@ fn put_answer(out: &mut [u8], at: usize, answer: Listed) -> usize {
     }
 }
 
+// Makes a sheet, and puts the answer and what was lent.
 fn put_sheet(
     out: &mut [u8],
     at: usize,
@@ -30,7 +32,7 @@ fn put_sheet(
     put_cells(out, listed, scratch)
 }
 
-// With room for any table here, and more.
+// With room for any table here, and more. The table has one mark byte.
 fn put_ample(
     out: &mut [u8],
     at: usize,
@@ -39,7 +41,7 @@ fn put_ample(
     events: usize,
     start: usize,
     cells: &[u16],
-    marks: &[u8],
+    mark: u8,
 ) -> usize {
     let mut list = [9999u16; 10];
     let mut scratch = [7777u16; 24];
@@ -51,7 +53,7 @@ fn put_ample(
         events,
         start,
         cells,
-        marks,
+        &[mark],
         &mut list,
         &mut scratch,
     )
@@ -62,51 +64,45 @@ fn put_c(out: &mut [u8], at: usize, mask: u32, list: &mut [u16], scratch: &mut [
     put_sheet(out, at, mask, 4, 1, 0, &[1, 2, 3, 3], &[2], list, scratch)
 }
 
-fn tables_a_to_c(out: &mut [u8], at: usize) -> usize {
-    let a = put_ample(out, at, 1, 3, 1, 0, &[1, 2, 2], &[1]);
-    let b = put_ample(out, a, 3, 3, 2, 0, &[1, 2, 0, 0, 0, 0], &[2]);
-    put_ample(out, b, 1, 4, 1, 0, &[1, 2, 3, 3], &[2])
+// Tables A to D.
+fn tables_a_to_d(out: &mut [u8], at: usize) -> usize {
+    let a = put_ample(out, at, 1, 3, 1, 0, &[1, 2, 2], 1);
+    let b = put_ample(out, a, 3, 3, 2, 0, &[1, 2, 0, 0, 0, 0], 2);
+    let c = put_ample(out, b, 1, 4, 1, 0, &[1, 2, 3, 3], 2);
+    put_ample(out, c, 3, 4, 2, 3, &[1, 2, 0, 0, 0, 0, 0, 0], 2)
 }
 
-fn tables_d_to_f(out: &mut [u8], at: usize) -> usize {
-    let d = put_ample(out, at, 3, 4, 2, 3, &[1, 2, 0, 0, 0, 0, 0, 0], &[2]);
-    let e = put_ample(out, d, 3, 1, 2, 0, &[0, 0], &[1]);
-    put_ample(out, e, 1, 2, 1, 0, &[0, 0], &[2])
+// Tables E and F; then tables with idle events: A with none counted, and two of which the first event counts. The other leads round
+// between rows 0 and 3 in one of them, and stands between counted ones in the last.
+fn tables_e_to_idle(out: &mut [u8], at: usize) -> usize {
+    let e = put_ample(out, at, 3, 1, 2, 0, &[0, 0], 1);
+    let f = put_ample(out, e, 1, 2, 1, 0, &[0, 0], 2);
+    let none = put_ample(out, f, 0, 3, 1, 0, &[1, 2, 2], 1);
+    let circle = put_ample(out, none, 1, 4, 2, 0, &[1, 3, 2, 1, 2, 2, 1, 0], 8);
+    put_ample(out, circle, 1, 4, 2, 0, &[1, 0, 3, 2, 3, 2, 3, 3], 4)
 }
 
-fn refusals_1_to_4(out: &mut [u8], at: usize) -> usize {
-    let one = put_ample(out, at, 1, 0, 1, 0, &[], &[]);
-    let two = put_ample(out, one, 1, 1, 33, 0, &[0], &[0]);
-    let three = put_ample(out, two, 3, 2, 2, 0, &[0, 0, 0, 0, 0], &[0]);
-    put_ample(out, three, 1, 2, 1, 2, &[0, 0], &[0])
+// Rules 1 to 3.
+fn refusals_1_to_3(out: &mut [u8], at: usize) -> usize {
+    let one = put_ample(out, at, 1, 0, 1, 0, &[], 0);
+    let two = put_ample(out, one, 1, 1, 33, 0, &[0], 0);
+    put_ample(out, two, 3, 2, 2, 0, &[0, 0, 0, 0, 0], 0)
 }
 
-fn refusals_5_and_6(out: &mut [u8], at: usize) -> usize {
-    let five = put_ample(out, at, 1, 2, 1, 0, &[1, 2], &[0]);
-    put_ample(out, five, 1, 2, 1, 0, &[1, 1], &[4])
+// Rules 4 to 6, and 6 where 16 is broken, too.
+fn refusals_4_to_6(out: &mut [u8], at: usize) -> usize {
+    let four = put_ample(out, at, 1, 2, 1, 2, &[0, 0], 0);
+    let five = put_ample(out, four, 1, 2, 1, 0, &[1, 2], 0);
+    let six = put_ample(out, five, 1, 2, 1, 0, &[1, 1], 4);
+    put_ample(out, six, 2, 2, 1, 0, &[1, 1], 4)
 }
 
-// Of two events the first counts: one in which the other leads round between rows 0 and 3, one in which it stands between counted ones. Before them A with none counted.
-fn idle_events(out: &mut [u8], at: usize) -> usize {
-    let none = put_ample(out, at, 0, 3, 1, 0, &[1, 2, 2], &[1]);
-    let circle = put_ample(out, none, 1, 4, 2, 0, &[1, 3, 2, 1, 2, 2, 1, 0], &[8]);
-    put_ample(out, circle, 1, 4, 2, 0, &[1, 0, 3, 2, 3, 2, 3, 3], &[4])
-}
-
-// 16 comes after 6 and before 7.
-fn spare_bits(out: &mut [u8], at: usize) -> usize {
-    let six = put_ample(out, at, 2, 2, 1, 0, &[1, 1], &[4]);
-    let sixteen = put_ample(out, six, 2, 2, 1, 0, &[1, 1], &[0]);
-    let mut shorter = [7777u16; 21];
-    let mut short = [9999u16; 8];
-    put_c(out, sixteen, 2, &mut short, &mut shorter)
-}
-
-// Four rows need 22 cells of scratch and 9 entries; 7 comes before 13.
+// Four rows need 22 cells of scratch and 9 entries; 16 comes before 7, and 7 before 13.
 fn rooms(out: &mut [u8], at: usize) -> usize {
     let mut shorter = [7777u16; 21];
     let mut short = [9999u16; 8];
-    let seven = put_c(out, at, 1, &mut short, &mut shorter);
+    let sixteen = put_c(out, at, 2, &mut short, &mut shorter);
+    let seven = put_c(out, sixteen, 1, &mut short, &mut shorter);
     let mut enough = [7777u16; 22];
     let thirteen = put_c(out, seven, 1, &mut short, &mut enough);
     let mut all = [9999u16; 9];
@@ -115,12 +111,10 @@ fn rooms(out: &mut [u8], at: usize) -> usize {
 
 fn main() {
     let mut out = io::large_buffer();
-    let abc = tables_a_to_c(&mut out, 0);
-    let def = tables_d_to_f(&mut out, abc);
-    let idle = idle_events(&mut out, def);
-    let four = refusals_1_to_4(&mut out, idle);
-    let six = refusals_5_and_6(&mut out, four);
-    let sixteen = spare_bits(&mut out, six);
-    let end = rooms(&mut out, sixteen);
-    printing::print(&out, end);
+    let mut n = tables_a_to_d(&mut out, 0);
+    n = tables_e_to_idle(&mut out, n);
+    n = refusals_1_to_3(&mut out, n);
+    n = refusals_4_to_6(&mut out, n);
+    n = rooms(&mut out, n);
+    printing::print(&out, n);
 }
