@@ -1,12 +1,12 @@
 -- What is known of the table at the next level: after rows have come in, and after values have become their leaders.
-use mathlib.Core.Path.{_≡_, refl, sym, ap, subst, _∙_}
+use mathlib.Core.Path.{_≡_, sym, ap, subst, _∙_}
 use mathlib.Core.List.{List}
-use mathlib.Core.Logic.{_⊎_, inl, inr, ⊎-elim}
-use Prim.Native.Nat.{ℕ, _+_, _*_, _/_, _≤_, _<_}
+use mathlib.Core.Logic.{_⊎_, ⊎-elim}
+use Prim.Native.Nat.{ℕ, _*_, _/_, _≤_, _<_}
 use native.Mathlib.Omega.{arith}
 use Rattle.scratch.proofs.Numbers.{eq-or-ne}
 use Rattle.splitting.specs.Places.{nxtAt, keyAt, tabAt}
-use Rattle.leaders.specs.Leaders.{rowAt, valueAt, stampAt, targetAt, classAt, Changed, Old, slotOf, Entry, Table, hashIn, Same, Known, Joins}
+use Rattle.leaders.specs.Leaders.{rowAt, valueAt, stampAt, targetAt, classAt, Old, slotOf, Table, hashIn, Same, Known, Joins}
 use Rattle.leaders.proofs.Signatures.{to-same}
 
 -- A table whose leaders, keys and entries stand in t stands in w too, if the signatures are the same at the places that are settled there.

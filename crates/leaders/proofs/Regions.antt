@@ -6,7 +6,6 @@ use Prim.Native.Nat.{ℕ, _+_, _*_, _≤_, _<_}
 use native.Mathlib.Omega.{arith}
 use lib.ListN.{length, getD, set}
 use lib.Seq.{getD-set-same, getD-set-other, getD-take}
-use Rattle.splitting.specs.Places.{nxtAt}
 use Rattle.splitting.proofs.Frames.{frame-none, frame-then, frame-back, frame-set}
 use Rattle.scratch.proofs.Numbers.{eq-or-ne}
 use Rattle.leaders.specs.Leaders.{rowAt, valueAt, Sizes, Kept}

@@ -2,15 +2,13 @@
 use mathlib.Core.Path.{_≡_, refl, sym, ap, ap₂, subst, _∙_}
 use mathlib.Core.Bool.{Bool, true, false, cond}
 use mathlib.Core.List.{List}
-use mathlib.Core.Logic.{_⊎_, inl, inr, ⊎-elim}
+use mathlib.Core.Logic.{inl, inr}
 use Prim.Native.Nat.{ℕ, zero, suc, _+_, _*_, _/_, _%_, _≤_, _<_}
 use native.Mathlib.Omega.{arith}
 use borrow.Author.Tests.{eqb-true, eqb-false}
 use lib.Dec.{eqb}
-use lib.ListN.{length, getD}
-use Rattle.automata.proofs.Tests.{either}
 use Rattle.tables.specs.Table.{weightBy}
-use Rattle.leaders.specs.Leaders.{rowAt, valueAt, stampAt, targetAt, classAt, Says, Signed, mixedAt, mixedTo, keyOf, Changed, Old, Settled, hashIn, Same, InHand, Kept}
+use Rattle.leaders.specs.Leaders.{rowAt, stampAt, targetAt, classAt, Signed, mixedAt, mixedTo, keyOf, Changed, Old, Settled, hashIn, Same, InHand, Kept}
 use Rattle.leaders.proofs.Regions.{kept-back, kept-front}
 
 -- ---- one signature

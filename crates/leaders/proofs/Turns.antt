@@ -9,8 +9,8 @@ use lib.ListN.{length, getD, set, length-set}
 use lib.Seq.{getD-set-same, getD-set-other}
 use Rattle.scratch.proofs.Numbers.{eq-or-ne}
 use Rattle.splitting.specs.Places.{nxtAt, keyAt, jumpAt, tabAt}
-use Rattle.leaders.specs.Leaders.{rowAt, Signed, Old, Settled, slotOf, hashIn, Same, Sizes, InHand, Kept}
-use Rattle.leaders.specs.Steps.{Alike, Found, Put, full, entered, follows, leads, Stepped, rests, passed, noted, Joining, JoiningIn}
+use Rattle.leaders.specs.Leaders.{rowAt, Old, Settled, slotOf, hashIn, Same, Sizes, InHand, Kept}
+use Rattle.leaders.specs.Steps.{Alike, Found, Put, full, entered, follows, leads, Stepped, rests, passed, noted, JoiningIn}
 use Rattle.leaders.proofs.Regions.{kept-none, kept-then, kept-set}
 use Rattle.leaders.proofs.Signatures.{signed-back, signed-trans, key-same, same-same, hash-same, settled-to, settled-from, same-from}
 use Rattle.leaders.proofs.Table.{turn-rests, turn-enters, turn-follows, turn-leads, joining-same}

@@ -3,7 +3,7 @@ use mathlib.Core.Path.{_≡_}
 use mathlib.Core.List.{List}
 use mathlib.Core.Logic.{_⊎_}
 use Prim.Native.Nat.{ℕ, suc, _+_, _*_, _≤_, _<_}
-use lib.ListN.{length, getD, set}
+use lib.ListN.{getD, set}
 use Rattle.splitting.specs.Places.{nxtAt, keyAt, jumpAt, tabAt}
 use Rattle.leaders.specs.Leaders.{rowAt, valueAt, Old, Settled, slotOf, Table, hashIn, Same, Kept}
 

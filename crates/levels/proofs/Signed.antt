@@ -1,12 +1,11 @@
 -- Where idle events stay: rows are near at a level just if their counted events lead to rows of one leader at the level before, which is their signature.
 -- So leaders of different signatures, and followers with their leaders' signatures, are all that a level needs.
-use mathlib.Core.Path.{_≡_, sym, ap, subst, _∙_}
+use mathlib.Core.Path.{_≡_}
 use Prim.Native.Nat.{ℕ, suc, _≤_, _<_}
 use native.Mathlib.Omega.{arith}
 use lib.ListN.{length, getD}
 use Rattle.automata.specs.Runs.{Events, Machine, Sound, Light, Near}
 use Rattle.automata.proofs.Runs.{near-sym, near-trans, near-up, near-step}
-use Rattle.tables.specs.Reduction.{order}
 use Rattle.levels.specs.Sweep.{Placed, listed, Border, Led, Settled}
 use Rattle.levels.proofs.Closure.{near-signed}
 use Rattle.levels.proofs.Borders.{placed-closed, placed-into}

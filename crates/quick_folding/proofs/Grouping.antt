@@ -1,12 +1,11 @@
 -- The classes of a level as the sweep goes on with them, whether leaders were joined or classes split.
-use mathlib.Core.Path.{_≡_, refl, sym, ap, subst, _∙_}
+use mathlib.Core.Path.{_≡_, sym, ap, subst, _∙_}
 use mathlib.Core.List.{List}
 use mathlib.Core.Logic.{inr}
 use mathlib.Core.Bool.{Bool}
-use Prim.Native.Nat.{ℕ, suc, _+_, _-_, _*_, _≤_, _<_}
+use Prim.Native.Nat.{ℕ, _+_, _-_, _*_, _≤_, _<_}
 use native.Mathlib.Omega.{arith}
 use lib.ListN.{length, getD}
-use Rattle.automata.specs.Runs.{Events, Machine}
 use Rattle.tables.specs.Table.{Table, weightBy, machine, eventsOf}
 use Rattle.levels.specs.Levels.{rowAt}
 use Rattle.levels.specs.Sweep.{Settled}

@@ -1,8 +1,7 @@
 -- One level: what the table of leaders asks, and the classes that come of it, or of splits.
 use mathlib.Core.Path.{_≡_, refl, sym, ap, subst, _∙_}
-use mathlib.Core.Bool.{Bool, true}
 use mathlib.Core.List.{List}
-use mathlib.Core.Logic.{_⊎_, inl, inr, ⊎-elim}
+use mathlib.Core.Logic.{_⊎_, ⊎-elim}
 use Prim.Native.Nat.{ℕ, suc, _+_, _-_, _*_, _≤_, _<_}
 use native.Mathlib.Omega.{arith}
 use native.Mathlib.Decide.{decLt}
@@ -11,7 +10,6 @@ use lib.Dec.{eqb}
 use lib.ListN.{length, getD}
 use Rattle.automata.specs.Runs.{Events, Machine, Near}
 use Rattle.automata.proofs.Runs.{near-refl, near-sym, near-up, near-cast}
-use Rattle.tables.specs.Lengths.{reached}
 use Rattle.tables.specs.Table.{Table, weightBy, machine, eventsOf}
 use Rattle.tables.specs.Reduction.{order}
 use Rattle.tables.proofs.Counted.{mask-light}
@@ -20,16 +18,16 @@ use Rattle.levels.specs.Levels.{rowAt}
 use Rattle.levels.specs.Sweep.{Placed, keptTo, listed, Led, Settled}
 use Rattle.levels.proofs.Order.{at-row, at-reached}
 use Rattle.levels.proofs.Borders.{placed-closed}
-use Rattle.levels.proofs.Kept.{kept-placed, listed-old, listed-length, listed-placed}
+use Rattle.levels.proofs.Kept.{kept-placed, listed-length, listed-placed}
 use Rattle.levels.proofs.Sweep.{led-sound}
 use Rattle.levels.proofs.Signed.{settled-signed}
 use Rattle.splitting.specs.Places.{nxtAt, jumpAt}
 use Rattle.classes.specs.Steps as Classes
 use Rattle.classes.proofs.Reading.{front-read}
-use Rattle.leaders.specs.Leaders.{classAt, Same, Known, Begun, Kept, Joins}
+use Rattle.leaders.specs.Leaders.{Known, Begun, Kept, Joins}
 use Rattle.leaders.proofs.Regions.{kept-front}
 use Rattle.leaders.proofs.After.{known-still}
-use Rattle.quick_folding.specs.Parts.{valueAt, listAt, Leading, Appended, Follows}
+use Rattle.quick_folding.specs.Parts.{valueAt, listAt, Appended}
 use Rattle.quick_folding.specs.State.{Fits, Stays, Tabled, Before}
 use Rattle.quick_folding.proofs.Moves.{same-behind}
 use Rattle.quick_folding.proofs.Grouping.{Grouping}

@@ -23,7 +23,7 @@ use Rattle.levels.proofs.Borders.{border-needs}
 use Rattle.levels.proofs.Kept.{kept-stays, kept-placed, listed-old}
 use Rattle.levels.proofs.Sweep.{led-sound, labelled-next, new-fold, new-adds, new-skips, led-next, rest-all}
 use Rattle.splitting.specs.Places.{nxtAt, jumpAt}
-use Rattle.quick_folding.specs.Parts.{labelAt, valueAt, listAt, seats, seatOf, Appended, Still, Leading, Renewable, Renewed, still, passed, Follows, Takable, Taken}
+use Rattle.quick_folding.specs.Parts.{labelAt, valueAt, listAt, seats, seatOf, Appended, Leading, Renewable, Renewed, still, passed, Follows, Takable, Taken}
 use Rattle.quick_folding.specs.State.{Fits, Before, After}
 use Rattle.quick_folding.proofs.Takes.{seats-none, seats-adds, seats-stays, seats-le, seats-low, seat-old, seat-new, leader-new, seat-in}
 use Rattle.quick_folding.proofs.Grouping.{Grouping}

@@ -1,7 +1,6 @@
 use Prim.Native.Nat.{ℕ, _+_, _*_, _<_}
 use mathlib.Core.Path.{_≡_, sym, ap, _∙_}
 use mathlib.Core.Bool.{false≢true}
-use native.Mathlib.Nat.{mul-le-mul-right}
 use borrow.Author.Tests.{not-false}
 use lib.ListN.{getD, length}
 use Rattle.scratch.proofs.Tallies.{tally-one}

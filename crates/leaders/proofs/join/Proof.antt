@@ -1,7 +1,6 @@
-use Prim.Native.Nat.{ℕ, _≤_, _<_}
-use mathlib.Core.Path.{_≡_, sym, subst, _∙_}
-use mathlib.Core.Logic.{_⊎_, inl, inr, ⊎-elim}
-use borrow.Author.Tests.{not-true, not-false}
+use mathlib.Core.Path.{_∙_}
+use mathlib.Core.Logic.{_⊎_, ⊎-elim}
+use borrow.Author.Tests.{not-false}
 use Rattle.leaders.proofs.Regions.{kept-none, kept-then, sizes-still}
 use Rattle.leaders.proofs.Signatures.{hand-still}
 use Rattle.leaders.proofs.Begin.{begin, end, calm-above}

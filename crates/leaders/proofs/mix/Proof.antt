@@ -1,6 +1,5 @@
 use Prim.Native.Nat.{ℕ, _+_, _*_, _%_}
 use mathlib.Core.Path.{sym, ap, _∙_}
-use native.Mathlib.Decide.{ℕ-discrete}
 use Rattle.leaders.proofs.Signatures.{mixed-idle, mixed-counted}
 use native.Mathlib.Omega.{arith}
 use borrow.Author.Needs.{needs}

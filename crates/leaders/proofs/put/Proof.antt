@@ -1,7 +1,6 @@
-use Prim.Native.Nat.{ℕ, suc, _+_, _-_, _*_, _<_}
+use Prim.Native.Nat.{_+_, _-_, _*_}
 use mathlib.Core.Path.{_≡_, refl, sym, ap, _∙_}
 use lib.ListN.{set, length-set}
-use Rattle.splitting.specs.Places.{tabAt}
 use Rattle.leaders.specs.Leaders.{hashIn}
 use Rattle.leaders.specs.Steps.{Alike, full, entered, follows, leads}
 use native.Mathlib.Omega.{arith}
@@ -9,10 +8,14 @@ use borrow.Author.Needs.{needs}
 use Rattle.leaders.proofs.put.Statement.{statement}
 use Rattle.leaders.proofs.put.Tie as tie
 
+-- the key that is noted is that of the signature
+noted : (c : tie.After-key-of) → let a = c .before .before .before .before .args in set (a .scratch .now) (6 * a .n + a .i) (c .key-of .result) ≡ set (a .scratch .now) (6 * a .n + a .i) (hashIn (a .mask) (a .n) (a .m) (a .cells .now) (a .scratch .now) (a .i))
+noted c = let a = c .before .before .before .before .args in ap (set (a .scratch .now) (6 * a .n + a .i)) (c .key-of .ensures)
+
 returns : tie.Need-returns
 returns c =
     let a = c .before .before .before .before .before .before .before .args in
-    full (ap (set (a .scratch .now) (6 * a .n + a .i)) (c .before .before .before .key-of .ensures)) (omega arith)
+    full (noted (c .before .before .before)) (omega arith)
 
 slice-read-wide : tie.Need-slice-read-wide
 slice-read-wide c = simp length-set (omega (arith, c .before .before .before .before .before .before .before .before .pre .0 .room, c .before .if1 .left))
@@ -23,7 +26,7 @@ slice-write-scratch-2 c = simp length-set (omega (arith, c .before .before .befo
 returns-2 : tie.Need-returns-2
 returns-2 c =
     let a = c .before .before .before .before .before .before .before .before .before .before .args in
-    entered (set (a .scratch .now) (6 * a .n + a .i) (c .before .before .before .before .before .before .key-of .result)) (c .before .before .before .before .find .result) (ap (set (a .scratch .now) (6 * a .n + a .i)) (c .before .before .before .before .before .before .key-of .ensures)) (omega arith) (c .before .before .before .before .find .ensures (omega arith)) (sym (c .before .wide .ensures) ∙ c .if2 .taken) refl refl
+    entered (set (a .scratch .now) (6 * a .n + a .i) (c .before .before .before .before .before .before .key-of .result)) (c .before .before .before .before .find .result) (noted (c .before .before .before .before .before .before)) (omega arith) (c .before .before .before .before .find .ensures (omega arith)) (sym (c .before .wide .ensures) ∙ c .if2 .taken) refl refl
 
 slice-write-scratch-3 : tie.Need-slice-write-scratch-3
 slice-write-scratch-3 c = simp length-set (omega (arith, c .before .before .before .before .before .before .before .before .before .before .before .pre .0 .room, c .before .before .before .before .before .before .before .before .before .before .before .pre .0 .inside, c .before .before .before .before .before .before .before .before .before .before .before .pre .1))
@@ -31,7 +34,7 @@ slice-write-scratch-3 c = simp length-set (omega (arith, c .before .before .befo
 returns-3 : tie.Need-returns-3
 returns-3 c =
     let a = c .before .before .before .before .before .before .before .before .before .before .before .args in
-    follows (set (a .scratch .now) (6 * a .n + a .i) (c .before .before .before .before .before .before .before .key-of .result)) (c .before .before .wide .result - 1) (ap (set (a .scratch .now) (6 * a .n + a .i)) (c .before .before .before .before .before .before .before .key-of .ensures))
+    follows (set (a .scratch .now) (6 * a .n + a .i) (c .before .before .before .before .before .before .before .key-of .result)) (c .before .before .wide .result - 1) (noted (c .before .before .before .before .before .before .before))
     (c .before .before .before .before .before .find .ensures (omega arith) .like (c .before .before .wide .result - 1) (sym (c .before .before .wide .ensures) ∙ omega arith)) (c .if3 .taken) refl refl
 
 -- the place in the cell is like place i
@@ -53,7 +56,7 @@ slice-write-scratch-5 c = simp length-set (omega (arith, c .before .before .befo
 returns-4 : tie.Need-returns-4
 returns-4 c =
     let a = c .before .before .before .before .before .before .before .before .before .before .before .args in
-    leads (set (a .scratch .now) (6 * a .n + a .i) (c .before .before .before .before .before .before .before .key-of .result)) (c .before .before .before .before .before .find .result) (c .before .before .wide .result - 1) (ap (set (a .scratch .now) (6 * a .n + a .i)) (c .before .before .before .before .before .before .before .key-of .ensures)) (omega arith) (c .before .before .before .before .before .find .ensures (omega arith))
+    leads (set (a .scratch .now) (6 * a .n + a .i) (c .before .before .before .before .before .before .before .key-of .result)) (c .before .before .before .before .before .find .result) (c .before .before .wide .result - 1) (noted (c .before .before .before .before .before .before .before)) (omega arith) (c .before .before .before .before .before .find .ensures (omega arith))
     (sym (c .before .before .wide .ensures) ∙ omega arith) (like c) (omega (arith, like c .other)) refl refl
 
 pub put-spec : {M : Type 1} → statement M

@@ -1,4 +1,3 @@
-use mathlib.Core.Path.{sym}
 use mathlib.Core.Bool.{true≢false, false≢true}
 use mathlib.Core.Logic.{inl, inr, ⊎-elim}
 use borrow.Author.Tests.{not-true, not-false}

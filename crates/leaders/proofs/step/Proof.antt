@@ -1,4 +1,4 @@
-use mathlib.Core.Path.{refl, sym, ap, _∙_}
+use mathlib.Core.Path.{refl, sym, _∙_}
 use mathlib.Core.Logic.{inl, inr}
 use Rattle.leaders.specs.Steps.{rests, passed, noted, Stepped}
 use Rattle.leaders.proofs.Turns.{put-kept}

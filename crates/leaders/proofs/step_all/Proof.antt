@@ -1,4 +1,4 @@
-use Prim.Native.Nat.{ℕ, _-_, _≤_, _<_}
+use Prim.Native.Nat.{ℕ, _-_, _≤_}
 use mathlib.Core.Path.{_≡_, subst, _∙_}
 use Rattle.leaders.specs.Leaders.{InHand, Kept}
 use Rattle.leaders.specs.Steps.{JoiningIn}

@@ -1,4 +1,3 @@
-use mathlib.Core.Path.{_∙_}
 use mathlib.Core.Bool.{false≢true}
 use Rattle.quick_folding.proofs.Entering.{shape}
 use Rattle.quick_folding.proofs.Ending.{searching, clear-laid, clear-fits, before-first, first-made, before-at, going-at}

@@ -1,4 +1,3 @@
-use mathlib.Core.Path.{_∙_}
 use Rattle.quick_folding.specs.Grouping.{joined, split}
 use Rattle.quick_folding.proofs.Grouping.{split-after}
 use native.Mathlib.Omega.{arith}

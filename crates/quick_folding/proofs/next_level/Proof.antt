@@ -1,7 +1,6 @@
-use mathlib.Core.Path.{refl, _∙_}
+use mathlib.Core.Path.{refl}
 use Rattle.quick_folding.proofs.Ending.{searching, level-low, onward, next-above, next-fits, before-next, going-at}
 use native.Mathlib.Omega.{arith}
-use borrow.Author.Needs.{needs}
 use Rattle.quick_folding.proofs.next_level.Statement.{statement}
 use Rattle.quick_folding.proofs.next_level.Tie as tie
 

@@ -2,7 +2,7 @@ use Prim.Native.Nat.{ℕ, _+_, _*_}
 use mathlib.Core.Path.{refl, sym, ap, _∙_}
 use lib.ListN.{set, length-set}
 use Rattle.splitting.specs.Places.{nxtAt}
-use Rattle.quick_folding.specs.Parts.{valueAt, stayed, changed}
+use Rattle.quick_folding.specs.Parts.{stayed, changed}
 use native.Mathlib.Omega.{arith}
 use borrow.Author.Needs.{needs}
 use Rattle.quick_folding.proofs.relabel_row.Statement.{statement}

@@ -1,7 +1,6 @@
 use mathlib.Core.Path.{refl}
 use Rattle.quick_folding.specs.Parts.{still, passed}
 use Rattle.quick_folding.proofs.Losing.{passed-all, passed-lost}
-use native.Mathlib.Omega.{arith}
 use borrow.Author.Needs.{needs}
 use Rattle.quick_folding.proofs.renew.Statement.{statement}
 use Rattle.quick_folding.proofs.renew.Tie as tie

@@ -1,8 +1,4 @@
-use Prim.Native.Nat.{ℕ}
-use mathlib.Core.Path.{refl, sym, subst, _∙_}
-use Rattle.tables.specs.Table.{weightBy, machine, eventsOf}
-use Rattle.rules.specs.Rules.{tableOf}
-use Rattle.quick_folding.specs.Parting.{Parted}
+use mathlib.Core.Path.{_∙_}
 use Rattle.quick_folding.proofs.Entering.{shape}
 use Rattle.quick_folding.proofs.Losses.{before-more, noting, noted-apart, parted-next, parted-rest, kept-same, tabled-noted, parted-at}
 use Rattle.quick_folding.proofs.Tabling.{tabled-none, tells-none}
