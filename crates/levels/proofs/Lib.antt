@@ -9,3 +9,4 @@ pub mod Kept
 pub mod Sweep
 pub mod Signed
 pub mod Parting
+pub mod Cells

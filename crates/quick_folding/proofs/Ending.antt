@@ -24,7 +24,8 @@ use Rattle.levels.proofs.Order.{at-row, at-reached, place-of}
 use Rattle.levels.proofs.Borders.{placed-closed, border, border-jump}
 use Rattle.levels.proofs.Kept.{kept-start, kept-few}
 use Rattle.levels.proofs.Sweep.{led-none, led-rest}
-use Rattle.quick_folding.specs.Parts.{labelAt, valueAt, listAt, needCell, Searching, Until, Onward, Staying, StaysAt}
+use Rattle.quick_folding.specs.Parts.{labelAt, valueAt, listAt, Searching, Until, Onward, Staying, StaysAt}
+use Rattle.levels.specs.Cells.{needCell}
 use Rattle.quick_folding.specs.State.{Fits, Stays, Laid, Apart, Before, After, Going, Folded}
 use Rattle.quick_folding.proofs.Whole.{cell-reached}
 use Rattle.quick_folding.proofs.Entering.{order-short, shape, sound, room, fits-still}

@@ -19,6 +19,8 @@ use Rattle.scratch.proofs.Cells.{cleared-length, cleared-before, cleared-behind
 use Rattle.scratch.proofs.Numbers.{eq-or-ne}
 use Rattle.levels.specs.Levels.{rowAt, apart}
 use Rattle.levels.specs.Sweep.{Placed, Rests, keptTo, Led, Border}
+use Rattle.levels.specs.Cells.{farCell}
+use Rattle.levels.proofs.Cells.{far-some}
 use Rattle.levels.proofs.Borders.{placed-closed, border-jump}
 use Rattle.levels.proofs.Kept.{kept-few, kept-placed}
 use Rattle.levels.proofs.Order.{at-row, at-reached, place-of}
@@ -28,7 +30,7 @@ use Rattle.levels.proofs.Sweep.{led-rest}
 use Rattle.quick_folding.specs.Parts.{labelAt, valueAt, listAt, Wrote, Valued, Labels}
 use Rattle.leaders.proofs.After.{known-still}
 use Rattle.quick_folding.specs.State.{Fits, Tabled, Apart, Swept, Before, After, Going}
-use Rattle.quick_folding.specs.Parting.{notedAt, lossAt, farCell, apartAt, upTo, Noting, Parted, Measured}
+use Rattle.quick_folding.specs.Parting.{notedAt, lossAt, apartAt, upTo, Noting, Parted, Measured}
 use Rattle.quick_folding.proofs.Entering.{order-short, shape, sound, room}
 use Rattle.quick_folding.proofs.Ending.{apart-then}
 use Rattle.quick_folding.proofs.Whole.{cell-reached}
@@ -79,12 +81,6 @@ module _ (n : ℕ) (s : List ℕ) (q : ℕ) where
     pub apart-kept : listAt n s (labelAt n s q) ≡ q → apartAt n s q ≡ farCell (notedAt n s (labelAt n s q))
     unfolding apartAt
     apart-kept e = rw (ne-eqb (leadIn s q) 0 r, eq-eqb (listAt n s (labelAt n s q)) q e)
-
-pub far-none : (x : ℕ) → x ≡ 0 → 65535 ≡ farCell x
-far-none x e = sym (rw (eq-eqb x 0 e) refl)
-
-pub far-some : (x : ℕ) → (x ≡ 0 → ⊥) → x ≡ farCell x
-far-some x ne = sym (rw (ne-eqb x 0 ne) refl)
 
 pub apart-still : {n count : ℕ} {f : ℕ → ℕ} {s t : List ℕ} → Labels n s → Valued n count f s t → (q : ℕ) → q < n → count ≤ n → apartAt n t q ≡ apartAt n s q
 unfolding apartAt

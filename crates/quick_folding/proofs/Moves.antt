@@ -9,7 +9,7 @@ use lib.ListN.{length, getD, drop, set, length-set}
 use lib.Seq.{getD-drop, getD-set-same, getD-set-other}
 use Rattle.scratch.proofs.Numbers.{eq-or-ne}
 use Rattle.splitting.specs.Places.{nxtAt}
-use Rattle.quick_folding.specs.Parts.{labelAt, listAt, valueAt, needCell, foldAt, Appendable, Appended, Wrote, Valued, Labels, stampAt, Relabelled, stayed, changed, Relabelling}
+use Rattle.quick_folding.specs.Parts.{labelAt, listAt, valueAt, foldAt, Appendable, Appended, Wrote, Valued, Labels, stampAt, Relabelled, stayed, changed, Relabelling}
 
 -- A cell behind those that may have changed.
 pub same-behind : (k : ℕ) (t s : List ℕ) → drop k t ≡ drop k s → (i : ℕ) → k ≤ i → getD t i 0 ≡ getD s i 0
@@ -161,19 +161,6 @@ module _ {n level q : ℕ} {s t : List ℕ} (h : q < n) (d : Relabelling n level
       stamp p z =
           let e : 5 * n + p ≡ b = ap (λ (x : ℕ). 5 * n + x) z in
           ap (λ (y : List ℕ). getD y (5 * n + p) 0) te ∙ ap (λ (x : ℕ). getD (set (set t a v) b level) x 0) e ∙ set2-second t a v b level (omega (arith, d .size))
-
--- ---- the level that a row needs
-pub need-endless : (k c : ℕ) → c ≡ 65535 → needCell k c ≡ 0
-need-endless k c e = rw (eq-eqb c 65535 e)
-
-need-is : (k c : ℕ) → (c ≡ 65535 → ⊥) → needCell k c ≡ suc k - c
-need-is k c ne = rw (ne-eqb c 65535 ne)
-
-pub need-none : (k c : ℕ) → (c ≡ 65535 → ⊥) → k < c → needCell k c ≡ 0
-need-none k c ne h = omega (arith, need-is k c ne)
-
-pub need-some : (k c w : ℕ) → (c ≡ 65535 → ⊥) → w ≡ c → k + 1 - w ≡ needCell k c
-need-some k c w ne h = omega (arith, need-is k c ne)
 
 -- ---- the rows into which rows fold
 module _ (n : ℕ) (s : List ℕ) (q : ℕ) where

@@ -11,6 +11,7 @@ use Rattle.tables.specs.Lengths.{lead, reached}
 use Rattle.tables.specs.Reduction.{order}
 use Rattle.scratch.specs.Scratch.{leadIn, lenCell}
 use Rattle.levels.specs.Levels.{apart}
+use Rattle.levels.specs.Cells.{farCell}
 use Rattle.quick_folding.specs.Parts.{labelAt, valueAt, listAt}
 use Rattle.quick_folding.specs.State.{Apart, Swept}
 
@@ -27,10 +28,6 @@ notedAt n s c = getD s (8 * n + c) 0
 -- What is noted of place c at a level, once that has been made.
 unfoldable pub lossAt : ℕ → ℕ → List ℕ → ℕ → ℕ
 lossAt n level s c = cond (eqb (notedAt n s c) 0) (cond (eqb (valueAt n s (listAt n s c)) c) 0 level) (notedAt n s c)
-
--- What was noted of a place as the cell of a length: a row that leads always is endlessly far from those before it.
-abbrev pub farCell : ℕ → ℕ
-farCell x = cond (eqb x 0) 65535 x
 
 -- The least distance of row q: 0 where it has folded. 0 where it has no lead.
 unfoldable pub apartAt : ℕ → List ℕ → ℕ → ℕ

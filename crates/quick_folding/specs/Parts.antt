@@ -8,6 +8,7 @@ use Prim.Native.Nat.{ℕ, zero, suc, _+_, _-_, _*_, _≤_, _<_}
 use lib.Dec.{eqb, ltb}
 use lib.ListN.{length, getD, set}
 use Rattle.tables.specs.Table.{weightBy}
+use Rattle.levels.specs.Cells.{needCell}
 use Rattle.scratch.specs.Scratch.{leadIn}
 use Rattle.splitting.specs.Places.{nxtAt, jumpAt}
 
@@ -23,10 +24,6 @@ listAt n s i = getD s (3 * n + i) 0
 -- The level at which a row's value changed last.
 abbrev pub stampAt : ℕ → List ℕ → ℕ → ℕ
 stampAt n s q = getD s (5 * n + q) 0
-
--- The level that a row needs, by the cell of its lead.
-abbrev pub needCell : ℕ → ℕ → ℕ
-needCell k c = cond (eqb c 65535) 0 (suc k - c)
 
 -- The row at the label of row q; 0 where it has no lead.
 unfoldable pub foldAt : ℕ → List ℕ → ℕ → ℕ

@@ -12,7 +12,8 @@ ghost use Rattle.scratch.specs.Folds.{Folds};
 ghost use Rattle.classes.specs.Values.{valuesBy, Given};
 ghost use Rattle.leaders.specs.Leaders.{Sizes, Begun, Kept, Joins};
 ghost use Rattle.levels.specs.Levels.{far as farOf};
-ghost use Rattle.quick_folding.specs.Parts.{valueAt, listAt, needCell, foldAt, Appendable, Appended, Valued, Still, Renewable, Relabelled, Relabelling, Losing, Alone, Renewed, Seated, Seating, Takable, Taken, Searching, Until, Onward, Labels, Staying, StaysAt};
+ghost use Rattle.levels.specs.Cells.{needCell};
+ghost use Rattle.quick_folding.specs.Parts.{valueAt, listAt, foldAt, Appendable, Appended, Valued, Still, Renewable, Relabelled, Relabelling, Losing, Alone, Renewed, Seated, Seating, Takable, Taken, Searching, Until, Onward, Labels, Staying, StaysAt};
 ghost use Rattle.quick_folding.specs.State.{Fits, Stays, Tabled, Laid, Apart, Before, After, Going, Folded};
 ghost use Rattle.quick_folding.specs.Grouping.{Grouped, Tells};
 ghost use Rattle.quick_folding.specs.Parting.{Aparts};
@@ -180,14 +181,7 @@ fn need(scratch: &[u16], k: usize, q: usize) -> usize
     requires { ⌜ (q < length (now scratch)) × (k ≤ 65535) ⌝ }
     ensures { λ r. ⌜ r ≡ needCell k (leadIn (now (scratch .entry)) q) ⌝ }
 {
-    let lead = rules::wide(scratch[q]);
-    if lead == 65535 {
-        return 0;
-    }
-    if k < lead {
-        return 0;
-    }
-    k + 1 - lead
+    levels::needed(k as u16, scratch[q])
 }
 
 // The first place from i on whose row needs more than the level; `count` if there is none.

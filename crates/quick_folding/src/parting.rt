@@ -10,9 +10,6 @@ ghost use Rattle.quick_folding.specs.Parts.{Wrote, Valued, Labels};
 ghost use Rattle.quick_folding.specs.State.{Fits, Stays, Tabled, Laid, Apart};
 ghost use Rattle.quick_folding.specs.Parting.{lossAt, apartAt, Noting, Parted, Measured};
 
-// A length that has no end.
-const ENDLESS: u16 = 65535;
-
 // The level at which the row at place c lost its lead: one noted before, or this one; 0 if it leads.
 fn loss(scratch: &[u16], n: usize, u: usize, c: usize, level: usize) -> u16
     requires { ⌜ Noting n u level (now scratch) × (c < u) ⌝ }
@@ -122,11 +119,7 @@ fn apart_of(scratch: &[u16], n: usize, q: usize) -> u16
     if rules::wide(scratch[3 * n + c]) != q {
         return 0;
     }
-    let noted = scratch[8 * n + c];
-    if noted == 0 {
-        return ENDLESS;
-    }
-    noted
+    levels::parted(scratch[8 * n + c])
 }
 
 // In place of the values, the least distances.

@@ -1,7 +1,7 @@
 use mathlib.Core.Path.{refl, ap, _∙_}
 use Prim.Native.Nat.{ℕ}
 use lib.ListN.{getD}
-use Rattle.quick_folding.specs.Parts.{needCell}
+use Rattle.levels.specs.Cells.{needCell}
 use native.Mathlib.Omega.{arith}
 use borrow.Author.Needs.{needs}
 use Rattle.quick_folding.proofs.next.Statement.{statement}

@@ -3,7 +3,8 @@ use mathlib.Core.Path.{_≡_, sym, ap, subst}
 use mathlib.Core.Logic.{⊎-elim}
 use lib.ListN.{getD}
 use Rattle.scratch.proofs.Numbers.{eq-or-ne}
-use Rattle.quick_folding.specs.Parts.{needCell, listAt}
+use Rattle.quick_folding.specs.Parts.{listAt}
+use Rattle.levels.specs.Cells.{needCell}
 use native.Mathlib.Omega.{arith}
 use Rattle.quick_folding.proofs.until.Statement.{statement}
 use Rattle.quick_folding.proofs.until.Tie as tie

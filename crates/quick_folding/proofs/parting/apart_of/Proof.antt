@@ -1,7 +1,9 @@
 use mathlib.Core.Path.{sym, ap, _∙_}
+use Prim.Native.Nat.{ℕ}
+use Rattle.levels.specs.Cells.{farCell}
 use Rattle.quick_folding.specs.Parts.{listAt}
 use Rattle.quick_folding.specs.Parting.{notedAt}
-use Rattle.quick_folding.proofs.Losses.{apart-unreached, apart-folded, apart-kept, far-none, far-some}
+use Rattle.quick_folding.proofs.Losses.{apart-unreached, apart-folded, apart-kept}
 use native.Mathlib.Omega.{arith}
 use borrow.Author.Needs.{needs}
 use Rattle.quick_folding.proofs.parting.apart_of.Statement.{statement}
@@ -32,18 +34,18 @@ returns-2 c =
     let a = c .before .before .before .before .before .before .before .before .args in
     apart-folded (a .n) (a .scratch .now) (a .q) (c .before .before .before .before .before .if1 .left) (λ e. c .if2 .taken (c .before .wide2 .ensures ∙ ap (listAt (a .n) (a .scratch .now)) (c .before .before .before .wide .ensures) ∙ e))
 
-add-noted : tie.Need-add-noted
-add-noted c =
+add-parted : tie.Need-add-parted
+add-parted c =
     let p = c .before .before .before .before .before .before .before .before .pre in
     omega (arith, p .0 .few, c .before .before .before .wide .ensures, p .0 .inside _ (p .1) (c .before .before .before .before .before .if1 .left))
 
-mul-noted-2 : tie.Need-mul-noted-2
-mul-noted-2 c =
+mul-parted-2 : tie.Need-mul-parted-2
+mul-parted-2 c =
     let p = c .before .before .before .before .before .before .before .before .pre in
     omega (arith, p .0 .few, c .before .before .before .wide .ensures, p .0 .inside _ (p .1) (c .before .before .before .before .before .if1 .left))
 
-shared-slice-read-noted : tie.Need-shared-slice-read-noted
-shared-slice-read-noted c =
+shared-slice-read-parted : tie.Need-shared-slice-read-parted
+shared-slice-read-parted c =
     let p = c .before .before .before .before .before .before .before .before .before .pre in
     omega (arith, p .0 .room, c .before .before .before .before .wide .ensures, p .0 .inside _ (p .1) (c .before .before .before .before .before .before .if1 .left))
 
@@ -52,14 +54,7 @@ returns-3 c =
     let a = c .before .before .before .before .before .before .before .before .before .before .args in
     let s = a .scratch .now in
     let e = c .before .before .before .before .before .wide .ensures in
-    far-none _ (ap (notedAt (a .n) s) (sym e) ∙ c .if3 .taken) ∙ sym (apart-kept (a .n) s (a .q) (c .before .before .before .before .before .before .before .if1 .left) (ap (listAt (a .n) s) (sym e) ∙ sym (c .before .before .before .wide2 .ensures) ∙ c .before .before .if2 .left))
-
-returns-4 : tie.Need-returns-4
-returns-4 c =
-    let a = c .before .before .before .before .before .before .before .before .before .before .args in
-    let s = a .scratch .now in
-    let e = c .before .before .before .before .before .wide .ensures in
-    ap (notedAt (a .n) s) e ∙ far-some _ (λ z. c .if3 .left (ap (notedAt (a .n) s) e ∙ z)) ∙ sym (apart-kept (a .n) s (a .q) (c .before .before .before .before .before .before .before .if1 .left) (ap (listAt (a .n) s) (sym e) ∙ sym (c .before .before .before .wide2 .ensures) ∙ c .before .before .if2 .left))
+    c .parted .ensures ∙ ap (λ (z : ℕ). farCell (notedAt (a .n) s z)) e ∙ sym (apart-kept (a .n) s (a .q) (c .before .before .before .before .before .before .before .if1 .left) (ap (listAt (a .n) s) (sym e) ∙ sym (c .before .before .before .wide2 .ensures) ∙ c .before .before .if2 .left))
 
 pub apart-of-spec : {M : Type 1} → statement M
 apart-of-spec =
@@ -79,8 +74,8 @@ apart-of-spec =
     (λ c κs. search needs)
     returns-2
     (λ c. search needs)
-    add-noted
-    mul-noted-2
-    shared-slice-read-noted
-    returns-3
-    returns-4)
+    add-parted
+    mul-parted-2
+    shared-slice-read-parted
+    (λ c κs. search needs)
+    returns-3)
