@@ -23,8 +23,9 @@ use Rattle.weights.proofs.Counts.{counted-all}
 use Rattle.rules.specs.Rules.{maskRule, leftBy}
 use Rattle.rules.proofs.Checks.{unbroken}
 use Rattle.scratch.specs.Scratch.{scratchCells}
-use Rattle.reduction.specs.Reduce.{verdict, answerBy, Promise}
-use Rattle.reduction.proofs.Fakes.{by-mask as judged-by-mask}
+use Rattle.reduction_rules.specs.Checks.{verdict}
+use Rattle.reduction.specs.Reduce.{answerBy, Promise}
+use Rattle.reduction_rules.proofs.Room.{by-mask as judged-by-mask}
 use Rattle.image_text.specs.ImageText.{textBy, maskedText}
 use Rattle.text.specs.Text.{joined, decimal, text}
 use Rattle.lines.specs.Lines.{refusalLine}

@@ -12,8 +12,8 @@ use Rattle.rules.specs.Rules.{andThen, judged, winch, roomRule, maskRule, maske
 use Rattle.rules.specs.declared.Verdict.{Verdict}
 use Rattle.rules.specs.declared.Verdict.the-variants.{Fine, Refused}
 use Rattle.rules.proofs.First.{room-broken, room-kept, valid-then}
-use Rattle.reduction.specs.Reduce.{roomChecks, verdict}
-use Rattle.reduction.proofs.Fakes.{accepts}
+use Rattle.reduction_rules.specs.Checks.{roomChecks, verdict}
+use Rattle.reduction_rules.proofs.Room.{accepts}
 use Rattle.load.specs.Load.{load}
 use Rattle.load.proofs.Valid.{load-valid}
 

@@ -10,8 +10,9 @@ use Rattle.rules.specs.declared.Verdict.{Verdict}
 use Rattle.scratch.specs.Scratch.{scratchCells, fewCells}
 use Rattle.records.specs.declared.Record.{Record}
 use Rattle.reduction.specs.declared.Answer.{Answer}
-use Rattle.reduction.specs.Reduce.{verdict, answerBy, Promise}
-use Rattle.reduction.proofs.Room.{same-verdict}
+use Rattle.reduction_rules.specs.Checks.{verdict}
+use Rattle.reduction.specs.Reduce.{answerBy, Promise}
+use Rattle.reduction_rules.proofs.Room.{same-verdict}
 use Rattle.recording.specs.Recorded.{recordsBy}
 
 -- What a call of a way promises, given the lent cells, mark bytes, records and scratch, its answer, and what stands in them afterwards.

@@ -15,10 +15,11 @@ use Rattle.records.specs.declared.Record.{Record}
 use Rattle.records.specs.Records.{written}
 use Rattle.records.proofs.Written.{written-is}
 use Rattle.rules.specs.Rules.{leftBy}
-use Rattle.reduction.specs.Reduce.{verdict, Promise}
+use Rattle.reduction_rules.specs.Checks.{verdict}
+use Rattle.reduction.specs.Reduce.{Promise}
 use Rattle.reduction.specs.Working.{unlessRefused, workBy, Worked}
 use Rattle.reduction.specs.declared.Done.{Done}
-use Rattle.reduction.proofs.Room.{Roomy, fine-roomy}
+use Rattle.reduction_rules.proofs.Room.{Roomy, fine-roomy}
 use Rattle.reduction.proofs.Promised.{promised}
 use Rattle.recording.specs.Recorded.{recordOf, recordsBy}
 use Rattle.recording.proofs.Told.{all-told}

@@ -1,4 +1,3 @@
-pub mod Room
 pub mod Worked
 pub mod Outcome
 pub mod Promised

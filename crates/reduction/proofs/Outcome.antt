@@ -20,9 +20,9 @@ use Rattle.ways.specs.declared.Way.{Way}
 use Rattle.ways.proofs.Needs.{four-regions}
 use Rattle.reduction.specs.declared.Answer.the-variants as answer
 use Rattle.reduction.specs.declared.Done.{Done}
-use Rattle.reduction.specs.Reduce.{verdict}
+use Rattle.reduction_rules.specs.Checks.{verdict}
 use Rattle.reduction.specs.Working.{workBy, Worked, Rewritten}
-use Rattle.reduction.proofs.Room.{Roomy, verdict-valid, fine-roomy, roomy-works}
+use Rattle.reduction_rules.proofs.Room.{Roomy, verdict-valid, fine-roomy, roomy-works}
 use Rattle.reduction.proofs.Worked.{left-reduced, told}
 
 module _ (way : Way) (k : Offset) (mask : ℕ) (T : Table) (bytes : (i : ℕ) → getD (T .marks) i 0 < 256) (cells marks scratch : List ℕ) (records : ℕ)

@@ -20,9 +20,10 @@ use Rattle.scratch.proofs.Cells.{clear-front, clear-work}
 use Rattle.reduction.specs.declared.Answer.{Answer}
 use Rattle.reduction.specs.declared.Answer.the-variants as answer
 use Rattle.reduction.specs.declared.Done.{Done}
-use Rattle.reduction.specs.Reduce.{verdict, answerBy, from, written, Promise}
+use Rattle.reduction_rules.specs.Checks.{verdict}
+use Rattle.reduction.specs.Reduce.{answerBy, from, written, Promise}
 use Rattle.reduction.specs.Working.{unlessRefused, workBy, Worked}
-use Rattle.reduction.proofs.Room.{Roomy, fine-roomy}
+use Rattle.reduction_rules.proofs.Room.{Roomy, fine-roomy}
 
 -- An answer with a row count is given where no rule is broken.
 counted : (v : Verdict) (m n : ℕ) → answerBy v m ≡ answer.Reduced n → (v ≡ Fine) × (m ≡ n)

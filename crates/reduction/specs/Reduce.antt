@@ -1,29 +1,16 @@
 -- What the reducer promises.
 use mathlib.Core.Path.{_≡_}
-use mathlib.Core.List.{List, [], _∷_, _++_}
+use mathlib.Core.List.{List}
 use Prim.Native.Nat.{ℕ, _*_}
 use lib.ListN.{take, replicate}
 use Rattle.automata.specs.Runs.{AgreeFrom}
 use Rattle.tables.specs.Table.{Table, Offset, offset, none, Valid, markBytes, machine, eventsOf, weightBy, Fewest}
 use Rattle.tables.specs.Reduction.{reduced}
-use Rattle.rules.specs.Rules.{judged, winch, roomRule, maskedChecks, tableOf, leftBy}
+use Rattle.rules.specs.Rules.{tableOf, leftBy}
 use Rattle.rules.specs.declared.Verdict.{Verdict}
 use Rattle.rules.specs.declared.Verdict.the-variants.{Fine, Refused}
 use Rattle.reduction.specs.declared.Answer.{Answer}
 use Rattle.reduction.specs.declared.Answer.the-variants as answer
-
--- Rule 7, for a table of so many rows and events, where the lent buffers have so many cells, mark bytes, records and scratch cells; `need` says how many of the last so many rows need.
-abbrev pub roomChecks : (ℕ → ℕ) → ℕ → ℕ → ℕ → ℕ → ℕ → ℕ → List Verdict
-roomChecks need rows events cells marks records scratch =
-    roomRule (rows * events) cells ∷ roomRule (markBytes rows) marks ∷ roomRule rows records ∷ roomRule (need rows) scratch ∷ []
-
--- Rules 1 to 7 in number order, with 16 straight after 6.
-abbrev pub reduceChecks : (ℕ → ℕ) → ℕ → Table → ℕ → ℕ → ℕ → ℕ → List Verdict
-reduceChecks need mask T cells marks records scratch = maskedChecks winch mask T ++ roomChecks need (T .rows) (T .events) cells marks records scratch
-
--- The first rule broken, if one is.
-unfoldable pub verdict : (ℕ → ℕ) → ℕ → Table → ℕ → ℕ → ℕ → ℕ → Verdict
-verdict need mask T cells marks records scratch = judged (reduceChecks need mask T cells marks records scratch)
 
 -- The answer: the new row count, or the refusal.
 abbrev pub answerBy : Verdict → ℕ → Answer

@@ -11,7 +11,7 @@ use Rattle.tables.specs.Reduction.{fold, number, reduced}
 use Rattle.rules.specs.declared.Verdict.{Verdict}
 use Rattle.rules.specs.declared.Verdict.the-variants.{Fine, Refused}
 use Rattle.scratch.specs.Scratch.{lenCell, workableIn}
-use Rattle.ways.specs.Ways.{FoldedBy}
+use Rattle.either_way.specs.Folding.{FoldedBy}
 use Rattle.renumbering.specs.Renumber.{newRows, newCells, newMarks, NewScratch}
 use Rattle.reduction.specs.declared.Done.{Done}
 use Rattle.reduction.specs.Reduce.{answerBy}

@@ -1,13 +1,14 @@
 // The reduction of a table into lent cells and mark bytes.
 ghost use mathlib.Core.Path.{_≡_};
 ghost use lib.ListN.{length};
-ghost use Rattle.rules.specs.Rules.{tableOf, offsetOf, judged, leftBy};
+ghost use Rattle.rules.specs.Rules.{tableOf, offsetOf, leftBy};
 ghost use Rattle.tables.specs.Table.{Valid, weightBy};
 ghost use Rattle.ways.specs.Ways.{needOf};
 ghost use Rattle.rules.specs.declared.Verdict.the-variants.{Fine};
 ghost use Rattle.tables.specs.Reduction.{reduced};
 ghost use Rattle.scratch.specs.Scratch.{cleared};
-ghost use Rattle.reduction.specs.Reduce.{roomChecks, verdict, Promise};
+ghost use Rattle.reduction_rules.specs.Checks.{verdict};
+ghost use Rattle.reduction.specs.Reduce.{Promise};
 ghost use Rattle.reduction.specs.Working.{workBy, Worked, Rewritten};
 use ways::Way;
 
@@ -22,63 +23,6 @@ pub struct Done {
     pub answer: Answer,
     pub rows: u16,
     pub used: usize,
-}
-
-// Rule 7: the lent cells, mark bytes, records and scratch cells, for a table of so many rows and events.
-fn check_room(
-    way: Way,
-    rows: u16,
-    events: u16,
-    cells: usize,
-    marks: usize,
-    records: usize,
-    scratch: usize,
-) -> rules::Verdict
-    ensures { λ r. ⌜ r ≡ judged (roomChecks (needOf way) rows events cells marks records scratch) ⌝ }
-{
-    if cells < rules::wide(rows) * rules::wide(events) {
-        return rules::Verdict::Refused(7, 0);
-    }
-    if marks < marks::mark_bytes(rules::wide(rows)) {
-        return rules::Verdict::Refused(7, 0);
-    }
-    if records < rules::wide(rows) {
-        return rules::Verdict::Refused(7, 0);
-    }
-    if scratch < ways::needed(way, rows) {
-        return rules::Verdict::Refused(7, 0);
-    }
-    rules::Verdict::Fine
-}
-
-// Rules 1 to 6, 16 and 7.
-fn check(
-    way: Way,
-    mask: u32,
-    rows: usize,
-    events: usize,
-    start: usize,
-    cells: &[u16],
-    marks: &[u8],
-    cellroom: usize,
-    markroom: usize,
-    recordroom: usize,
-    room: usize,
-) -> rules::Verdict
-    ensures { λ r. ⌜ r ≡ verdict (needOf way) mask (tableOf rows events start (now (cells .entry)) (now (marks .entry))) cellroom markroom recordroom room ⌝ }
-{
-    match rules::check_masked(rules::winch(), mask, rows, events, start, cells, marks) {
-        rules::Verdict::Refused(number, place) => rules::Verdict::Refused(number, place),
-        rules::Verdict::Fine => check_room(
-            way,
-            rows as u16,
-            events as u16,
-            cellroom,
-            markroom,
-            recordroom,
-            room,
-        ),
-    }
 }
 
 // Folds the rows and writes the table that is left, if the table is valid and there is room; its row count.
@@ -98,7 +42,7 @@ fn rewrite(
     ensures { λ r. ⌜ (let T = tableOf rows events start (now (cells .entry)) (now (marks .entry)) in
         Rewritten (needOf way) (offsetOf offset) mask T (now (newcells .entry)) (now (newmarks .entry)) (now (scratch .entry)) r (now (newcells .exit)) (now (newmarks .exit)) (now (scratch .exit))) ⌝ }
 {
-    ways::fold_rows(
+    either_way::fold_rows(
         way,
         offset,
         mask,
@@ -145,7 +89,7 @@ pub fn work(
         × Worked need v k mask T s (now (scratch .exit))
         × (v ≡ Fine → Valid T)) ⌝ }
 {
-    match check(
+    match reduction_rules::check(
         way,
         mask,
         rows,

@@ -60,7 +60,7 @@ use Rattle.records.proofs.write_records as write
 use Rattle.records.proofs.write_records.Symbol as write-def
 use Rattle.records.proofs.write_records.Symbol.{name as #write-records}
 use Rattle.records.proofs.write_records.Met as write-thm
-use Rattle.reduction.specs.Reduce.{verdict}
+use Rattle.reduction_rules.specs.Checks.{verdict}
 use Rattle.reduction.specs.Working.{workBy, Worked as LeftWorked}
 use Rattle.reduction.specs.declared.Done.{Done}
 use Rattle.reducer.proofs.Again.{LentAgain, lends-again, comes-back}

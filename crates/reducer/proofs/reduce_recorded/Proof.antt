@@ -64,7 +64,8 @@ use Rattle.ways.proofs.Way.Laws as Wy′
 use Rattle.records.specs.declared.Record.{Record}
 use Rattle.records.proofs.Record as T
 use Rattle.records.proofs.Record.Laws as T′
-use Rattle.reduction.specs.Reduce.{verdict, Promise}
+use Rattle.reduction_rules.specs.Checks.{verdict}
+use Rattle.reduction.specs.Reduce.{Promise}
 use Rattle.recording.specs.Recorded.{recordsBy}
 use Rattle.reduction.specs.declared.Answer.{Answer}
 use Rattle.reducer.specs.declared.Outcome.{Outcome}

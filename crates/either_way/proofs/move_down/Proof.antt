@@ -7,8 +7,8 @@ use Rattle.tables.specs.Lists.{tabulate, over}
 use Rattle.tables.proofs.Lists.{tabulate-length}
 use Rattle.tables.proofs.Over.{over-none, over-all, over-behind, tabulate-next}
 use native.Mathlib.Omega.{arith}
-use Rattle.ways.proofs.move_down.Statement.{statement}
-use Rattle.ways.proofs.move_down.Tie as tie
+use Rattle.either_way.proofs.move_down.Statement.{statement}
+use Rattle.either_way.proofs.move_down.Tie as tie
 
 abbrev Inv-loop : tie.InvT-loop
 Inv-loop cells₀ from count i₀ cells i = (i ≤ count) × (cells ≡ over cells₀ 0 (take i (tabulate count (λ j. getD cells₀ (from + j) 0)))) × (length cells ≡ length cells₀)

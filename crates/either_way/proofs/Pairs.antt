@@ -16,7 +16,7 @@ use Rattle.pairs.proofs.Triangle.{needed-value}
 use Rattle.pairs.proofs.Works.{workable-fine}
 use Rattle.folding.specs.Folding.{foldedIn}
 use Rattle.folding.proofs.FoldedIn.{folded-size, folded-fold, folded-lead, folded-beyond}
-use Rattle.ways.specs.Ways.{FoldedBy}
+use Rattle.either_way.specs.Folding.{FoldedBy}
 
 module _ (mask : ℕ) (k : Offset) (T : Table) (s : List ℕ) (w : workable T (length s) ≡ true) (t : List ℕ) (e : t ≡ foldedIn mask k T s) where
   abbrev n : ℕ

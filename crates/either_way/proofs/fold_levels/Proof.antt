@@ -4,11 +4,11 @@ use Rattle.rules.specs.Rules.{tableOf, offsetOf}
 use Rattle.scratch.specs.Scratch.{scratchCells}
 use Rattle.pairs.proofs.Triangle.{needed-value}
 use Rattle.pairs.proofs.Figures.{many-rows, short-room}
-use Rattle.ways.proofs.Choice.{not-folded, levels-done}
+use Rattle.either_way.proofs.Choice.{not-folded, levels-done}
 use native.Mathlib.Omega.{arith}
 use borrow.Author.Needs.{needs}
-use Rattle.ways.proofs.fold_levels.Statement.{statement}
-use Rattle.ways.proofs.fold_levels.Tie as tie
+use Rattle.either_way.proofs.fold_levels.Statement.{statement}
+use Rattle.either_way.proofs.fold_levels.Tie as tie
 
 returns : tie.Need-returns
 returns c =

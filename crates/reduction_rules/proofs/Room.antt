@@ -1,20 +1,21 @@
 -- Rule 7, check by check, and what it means that no rule is broken.
 use mathlib.Core.Path.{_≡_, sym, ap, subst, _∙_}
-use mathlib.Core.Bool.{true}
+use mathlib.Core.Bool.{true, false}
 use mathlib.Core.List.{List, [], _∷_}
 use Prim.Native.Nat.{ℕ, _-_, _*_, _≤_, _<_}
 use borrow.Author.Tests.{ltb-false}
 use lib.ListN.{getD}
 use Rattle.tables.specs.Table.{Table, Valid, markBytes}
+use Rattle.weights.specs.Weights.{spareBit}
 use Rattle.rules.specs.Rules.{judged, winch, maskRule, maskedChecks}
 use Rattle.rules.specs.declared.Limits.{Limits}
 use Rattle.rules.specs.declared.Verdict.{Verdict}
 use Rattle.rules.specs.declared.Verdict.the-variants.{Fine, Refused}
 use Rattle.rules.proofs.Checks.{unbroken, passed}
-use Rattle.rules.proofs.First.{room-broken, room-kept, table-refused, table-then, fine-valid, more-fine}
+use Rattle.rules.proofs.First.{room-broken, room-kept, table-refused, table-then, fine-valid, more-fine, valid-masked}
 use Rattle.scratch.specs.Scratch.{workableIn}
 use Rattle.scratch.proofs.Works.{valid-within}
-use Rattle.reduction.specs.Reduce.{roomChecks, verdict}
+use Rattle.reduction_rules.specs.Checks.{roomChecks, verdict}
 
 -- A product of numbers as the code has them.
 pub same-product : {x y rows events cells : ℕ} → x ≡ rows → y ≡ events → x * y ≤ cells → rows * events ≤ cells
@@ -95,3 +96,15 @@ pub same-verdict : (need more : ℕ → ℕ) (mask : ℕ) (T : Table) (cells mar
     → verdict need mask T cells marks records scratch ≡ verdict more mask T cells marks records spare
 unfolding verdict
 same-verdict need more mask T cells marks records scratch spare h g = rw (room-kept (need (T .rows)) scratch h, room-kept (more (T .rows)) spare g)
+
+-- A mask, a valid table, and buffers that have the named lengths or more.
+module _ (need : ℕ → ℕ) (mask : ℕ) (T : Table) (v : Valid T) (cells marks records scratch : ℕ) (c : T .rows * T .events ≤ cells) (m : markBytes (T .rows) ≤ marks) (r : T .rows ≤ records) (s : need (T .rows) ≤ scratch) where
+  -- Then the mask alone can break a rule,
+  pub by-mask : verdict need mask T cells marks records scratch ≡ maskRule mask (T .events)
+  unfolding verdict
+  by-mask =
+      valid-masked mask T v (roomChecks need (T .rows) (T .events) cells marks records scratch) (all-fits need (T .rows) (T .events) cells marks records scratch c m r s)
+
+  -- and none is broken where it has no bit that belongs to no event.
+  pub accepts : spareBit mask (T .events) ≡ false → verdict need mask T cells marks records scratch ≡ Fine
+  accepts e = by-mask ∙ rw e

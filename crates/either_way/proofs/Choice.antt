@@ -16,7 +16,7 @@ use Rattle.pairs.proofs.Triangle.{needed-value}
 use Rattle.pairs.proofs.Figures.{few-fit, same-works}
 use Rattle.folding.specs.Folding.{foldedIn}
 use Rattle.folding.proofs.FoldedIn.{folded-not}
-use Rattle.ways.specs.Ways.{FoldedBy, Folding}
+use Rattle.either_way.specs.Folding.{FoldedBy, Folding}
 
 -- The figure as the document has it, and as the triangle has it.
 figures : (T : Table) (room : ℕ) → workableIn scratchCells T room ≡ workable T room

@@ -1,11 +1,12 @@
 use mathlib.Core.Path.{sym, subst}
 use Rattle.rules.specs.Rules.{tableOf, offsetOf}
-use Rattle.ways.specs.Ways.{needOf, Folding}
+use Rattle.ways.specs.Ways.{needOf}
+use Rattle.either_way.specs.Folding.{Folding}
 use Rattle.ways.specs.declared.Way.{Way}
-use Rattle.ways.proofs.Choice.{few-done}
+use Rattle.either_way.proofs.Choice.{few-done}
 use borrow.Author.Needs.{needs}
-use Rattle.ways.proofs.fold_rows.Statement.{statement}
-use Rattle.ways.proofs.fold_rows.Tie as tie
+use Rattle.either_way.proofs.fold_rows.Statement.{statement}
+use Rattle.either_way.proofs.fold_rows.Tie as tie
 
 returns : tie.Need-returns
 returns c =

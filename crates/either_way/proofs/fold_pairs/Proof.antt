@@ -2,12 +2,12 @@ use mathlib.Core.Path.{refl, sym, _∙_}
 use lib.ListN.{length}
 use Rattle.rules.specs.Rules.{tableOf, offsetOf}
 use Rattle.pairs.proofs.Works.{workable-shape}
-use Rattle.ways.proofs.Pairs.{pairs-fit, pairs-folded}
-use Rattle.ways.proofs.Choice.{pairs-not, pairs-done}
+use Rattle.either_way.proofs.Pairs.{pairs-fit, pairs-folded}
+use Rattle.either_way.proofs.Choice.{pairs-not, pairs-done}
 use native.Mathlib.Omega.{arith}
 use borrow.Author.Needs.{needs}
-use Rattle.ways.proofs.fold_pairs.Statement.{statement}
-use Rattle.ways.proofs.fold_pairs.Tie as tie
+use Rattle.either_way.proofs.fold_pairs.Statement.{statement}
+use Rattle.either_way.proofs.fold_pairs.Tie as tie
 
 cast-pair-cells : tie.Need-cast-pair-cells
 cast-pair-cells c =

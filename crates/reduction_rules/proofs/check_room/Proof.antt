@@ -1,10 +1,10 @@
 use native.Mathlib.Omega.{arith}
 use Rattle.scratch.proofs.Numbers.{product-bound}
 use Rattle.ways.specs.Ways.{needOf}
-use Rattle.reduction.proofs.Room.{same-product, less-product, short-cells, short-marks, short-records, short-scratch, all-fits}
+use Rattle.reduction_rules.proofs.Room.{same-product, less-product, short-cells, short-marks, short-records, short-scratch, all-fits}
 use borrow.Author.Needs.{needs}
-use Rattle.reduction.proofs.check_room.Statement.{statement}
-use Rattle.reduction.proofs.check_room.Tie as tie
+use Rattle.reduction_rules.proofs.check_room.Statement.{statement}
+use Rattle.reduction_rules.proofs.check_room.Tie as tie
 
 mul-if1 : tie.Need-mul-if1
 mul-if1 c = omega (arith, product-bound (c .before .wide .result) (c .wide2 .result) (omega arith) (omega arith))

@@ -3,10 +3,10 @@ use mathlib.Core.List.{[], _∷_}
 use Rattle.rules.specs.Rules.{maskRule, tableOf}
 use Rattle.rules.proofs.First.{few-rows, few-events}
 use Rattle.ways.specs.Ways.{needOf}
-use Rattle.reduction.proofs.Room.{verdict-refused, verdict-room}
+use Rattle.reduction_rules.proofs.Room.{verdict-refused, verdict-room}
 use borrow.Author.Needs.{needs}
-use Rattle.reduction.proofs.check.Statement.{statement}
-use Rattle.reduction.proofs.check.Tie as tie
+use Rattle.reduction_rules.proofs.check.Statement.{statement}
+use Rattle.reduction_rules.proofs.check.Tie as tie
 
 cast-check-room : tie.Need-cast-check-room
 cast-check-room c =
