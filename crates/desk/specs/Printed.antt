@@ -1,19 +1,17 @@
 -- What `reduce` prints for the bytes that it reads.
-use mathlib.Core.Bool.{cond}
 use mathlib.Core.List.{List, map}
 use Prim.Native.Nat.{ℕ}
-use lib.Dec.{eqb}
-use Rattle.tables.specs.Table.{Table, Offset, offset, none, weightBy}
+use Rattle.tables.specs.Table.{Table, Offset, weightBy}
 use Rattle.tables.specs.Reduction.{reduced, records}
 use Rattle.weights.specs.Weights.{counted}
 use Rattle.images.specs.Image.{numberAt}
 use Rattle.recording.specs.Recorded.{recordOf}
 use Rattle.listing.specs.Listing.{listing}
-use Rattle.image_text.specs.ImageText.{maskAt, maskedText, inputText}
+use Rattle.image_text.specs.ImageText.{storedOffset, maskAt, maskedText, inputText}
 
 -- "A 16-bit offset, low byte first (65,535 is none)."
 abbrev pub offsetIn : List ℕ → Offset
-offsetIn input = cond (eqb (numberAt input 0) 65535) none (offset (numberAt input 0))
+offsetIn input = storedOffset (numberAt input 0)
 
 -- The listing of a table's reduction, where a mask says which events count.
 unfoldable pub reductionText : Offset → ℕ → Table → List ℕ

@@ -1,10 +1,8 @@
 // What the program `reduce` makes of the bytes that it reads: the text that it prints.
 ghost use mathlib.Core.Path.{_≡_};
-ghost use Prim.Native.Nat.{_+_, _*_, _≤_, min};
-ghost use mathlib.Core.Bool.{cond};
-ghost use lib.Dec.{eqb};
+ghost use Prim.Native.Nat.{_≤_, min};
 ghost use lib.ListN.{length};
-ghost use Rattle.tables.specs.Table.{Valid, offset, none};
+ghost use Rattle.tables.specs.Table.{Valid};
 ghost use Rattle.rules.specs.Rules.{tableOf, offsetOf};
 ghost use Rattle.text.specs.Text.{filled, Puts};
 ghost use Rattle.image_text.specs.ImageText.{imageText, maskedText};
@@ -13,17 +11,6 @@ ghost use Rattle.listing.specs.Listing.{blank as blankRecord};
 use image_sections::Read;
 use reduction::Answer;
 use rules::Offset;
-
-// The offset that stands in two bytes, low byte first; 65,535 is none.
-fn offset_of(low: u8, high: u8) -> Offset
-    ensures { λ r. ⌜ offsetOf r ≡ cond (eqb (low + 256 * high) 65535) none (offset (low + 256 * high)) ⌝ }
-{
-    let k = (low as u16) + 256 * (high as u16);
-    if k == 65535 {
-        return Offset::None;
-    }
-    Offset::Number(k)
-}
 
 // A record to be written over.
 fn blank() -> records::Record
@@ -118,7 +105,7 @@ pub fn write_text(input: &[u8], out: &mut [u8]) -> usize
     if input.len() < 6 {
         return lines::put_refusal(out, 0, 8, 0);
     }
-    let offset = offset_of(input[0], input[1]);
+    let offset = image_text::offset_of(input[0], input[1]);
     let mask = image_text::mask_of(input[2], input[3], input[4], input[5]);
     write_image_text(offset, mask, &input[6..], out)
 }

@@ -2,9 +2,9 @@
 use mathlib.Core.Bool.{cond}
 use mathlib.Core.List.{List}
 use Prim.Native.Nat.{ℕ, _+_, _*_}
-use lib.Dec.{ltb}
+use lib.Dec.{eqb, ltb}
 use lib.ListN.{length, drop}
-use Rattle.tables.specs.Table.{Table}
+use Rattle.tables.specs.Table.{Table, Offset, offset, none}
 use Rattle.rules.specs.Rules.{winch, maskRule}
 use Rattle.rules.specs.declared.Verdict.{Verdict}
 use Rattle.rules.specs.declared.Verdict.the-variants.{Fine, Refused}
@@ -26,6 +26,10 @@ imageText f image = textOf f image (imageRead winch (atMost 128) image)
 -- n bytes stand before the image; "fewer .. before the image give 8, place 0".
 unfoldable pub inputText : ℕ → (Table → List ℕ) → List ℕ → List ℕ
 inputText n f input = cond (ltb (length input) n) (refusalLine 8 0) (imageText f (drop n input))
+
+-- The offset that a number of 16 bits stands for: "65,535 is none".
+abbrev pub storedOffset : ℕ → Offset
+storedOffset k = cond (eqb k 65535) none (offset k)
 
 -- The mask that stands at a place: "four bytes, low first".
 abbrev pub maskAt : List ℕ → ℕ → ℕ

@@ -1,6 +1,20 @@
-// What a program prints that reads a mask and an image of at most 128 rows: the definition is in specs/, its laws in proofs/. The code reads the mask.
+// What a program prints that reads a mask and an image of at most 128 rows: the definition is in specs/, its laws in proofs/. The code reads the offset and the mask.
 ghost use mathlib.Core.Path.{_≡_};
 ghost use Prim.Native.Nat.{_+_, _*_};
+ghost use Rattle.rules.specs.Rules.{offsetOf};
+ghost use Rattle.image_text.specs.ImageText.{storedOffset};
+use rules::Offset;
+
+// The offset that stands in two bytes, low byte first; 65,535 is none.
+pub fn offset_of(low: u8, high: u8) -> Offset
+    ensures { λ r. ⌜ offsetOf r ≡ storedOffset (low + 256 * high) ⌝ }
+{
+    let k = (low as u16) + 256 * (high as u16);
+    if k == 65535 {
+        return Offset::None;
+    }
+    Offset::Number(k)
+}
 
 // The mask that stands in four bytes, low byte first.
 pub fn mask_of(first: u8, second: u8, third: u8, fourth: u8) -> u32

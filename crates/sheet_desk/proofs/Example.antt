@@ -13,7 +13,8 @@ use Rattle.image_sections.specs.Read.{readOf}
 use Rattle.text.specs.Text.{text, decimalIn, decimal, joined}
 use Rattle.lines.specs.Lines.{pairLine, headLine}
 use Rattle.image_text.specs.ImageText.{imageText, inputText}
-use Rattle.sheet_desk.specs.Printed.{noneLine, sheetLines, sheetText, printed}
+use Rattle.sheet_text.specs.Sheet.{noneLine, sheetLines}
+use Rattle.sheet_desk.specs.Printed.{sheetText, printed}
 
 -- The mask, and document 01's image of A.
 abbrev pub inputA : List ℕ

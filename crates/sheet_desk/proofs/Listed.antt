@@ -3,7 +3,8 @@ use mathlib.Core.Path.{_≡_, refl, sym, ap, ap₂, _∙_}
 use mathlib.Core.List.{List, _++_}
 use Prim.Native.Nat.{ℕ, _-_, _^_, _≤_, _<_}
 use native.Mathlib.Omega.{arith}
-use lib.ListN.{length, getD, replicate, length-replicate}
+use lib.ListN.{length, getD, take, replicate, length-replicate}
+use lib.Seq.{length-take-le, getD-take}
 use Rattle.tables.specs.Table.{Table, Valid, offset, none, weightBy}
 use Rattle.tables.specs.Reduction.{reduced}
 use Rattle.weights.specs.Weights.{spareBit, counted}
@@ -22,7 +23,8 @@ use Rattle.text.proofs.Buffer.{joined-same}
 use Rattle.image_text.specs.ImageText.{textBy, maskedText}
 use Rattle.text.specs.Text.{text, joined}
 use Rattle.lines.specs.Lines.{pairLine, headLine, refusalLine}
-use Rattle.sheet_desk.specs.Printed.{noneLine, sheetLines, sheetText}
+use Rattle.sheet_text.specs.Sheet.{noneLine, sheetLines, listLines}
+use Rattle.sheet_desk.specs.Printed.{sheetText}
 
 -- The buffers before.
 abbrev list₀ : List ℕ
@@ -68,16 +70,18 @@ module _ {mask : ℕ} {T : Table} (fits : mask < 2 ^ 32) (valid : Valid T) (few 
     all-counted : counted mask 32 ≡ counted mask (T .events)
     all-counted = counted-all mask (T .events) (valid .events-fit) fits (unbroken 16 (spareBit mask (T .events)) 0 (kept .0))
 
-    -- There is a last entry,
-    pub entries-part : length list ≡ length list₀ → (0 < n) × (n ≤ length list)
-    entries-part size = (omega (arith, all-entries), omega (arith, all-entries, length-replicate {A = ℕ} 257 0))
+    module _ (size : length list ≡ length list₀) where
+      -- The entries fit the list,
+      pub entries-part : n ≤ length list
+      entries-part = omega (arith, all-entries, length-replicate {A = ℕ} 257 0)
 
-    -- and the text that is read off the list is that of the table.
-    pub text-is : {count : ℕ} → count ≡ counted mask 32 → sheetLines (T .rows) (T .events) count n (λ k. getD list k 0) (getD list (n - 1) 0) ≡ maskedText mask (sheetText mask) T
-    unfolding sheetLines sheetText
-    text-is {count} hn =
-        ap₂ (λ (lines : List ℕ) (last : ℕ). headLine (text "sheet ") (T .rows) (T .events) count ++ lines ++ noneLine last)
-        (joined-same n _ (λ k. pairLine k (reduced (weightBy mask) (offset k) T .rows)) (λ k h. ap (pairLine k) (p .entry n e k h)) ∙ ap (λ (m : ℕ). joined m (λ k. pairLine k (reduced (weightBy mask) (offset k) T .rows))) all-entries)
-        (p .last n e)
-        ∙ ap (λ (m : ℕ). sheetLines (T .rows) (T .events) m (entries (T .rows)) (λ k. reduced (weightBy mask) (offset k) T .rows) (reduced (weightBy mask) none T .rows)) (hn ∙ all-counted)
-        ∙ sym (ap (λ (u : Verdict). textBy u (sheetText mask T)) (kept .0))
+      -- and the text that is read off them is that of the table.
+      pub text-is : {count : ℕ} → count ≡ counted mask 32 → listLines (T .rows) (T .events) count (take n list) ≡ maskedText mask (sheetText mask) T
+      unfolding sheetLines sheetText
+      text-is {count} hn =
+          ap (λ (m : ℕ). sheetLines (T .rows) (T .events) count m (λ k. getD (take n list) k 0) (getD (take n list) (m - 1) 0)) (length-take-le n list entries-part)
+          ∙ ap₂ (λ (lines : List ℕ) (last : ℕ). headLine (text "sheet ") (T .rows) (T .events) count ++ lines ++ noneLine last)
+          (joined-same n _ (λ k. pairLine k (reduced (weightBy mask) (offset k) T .rows)) (λ k h. ap (pairLine k) (getD-take n list k 0 h ∙ p .entry n e k h)) ∙ ap (λ (m : ℕ). joined m (λ k. pairLine k (reduced (weightBy mask) (offset k) T .rows))) all-entries)
+          (getD-take n list (n - 1) 0 (omega (arith, all-entries)) ∙ p .last n e)
+          ∙ ap (λ (m : ℕ). sheetLines (T .rows) (T .events) m (entries (T .rows)) (λ k. reduced (weightBy mask) (offset k) T .rows) (reduced (weightBy mask) none T .rows)) (hn ∙ all-counted)
+          ∙ sym (ap (λ (u : Verdict). textBy u (sheetText mask T)) (kept .0))

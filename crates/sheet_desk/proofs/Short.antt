@@ -17,7 +17,8 @@ use Rattle.image_text.specs.ImageText.{maskAt, maskedText}
 use Rattle.image_text.proofs.Short.{Inside}
 use Rattle.image_text.proofs.Front.{input-short, masked-short}
 use Rattle.sheet_rules.specs.Checks.{entries}
-use Rattle.sheet_desk.specs.Printed.{noneLine, sheetLines, sheetText, printed}
+use Rattle.sheet_text.specs.Sheet.{noneLine, sheetLines}
+use Rattle.sheet_desk.specs.Printed.{sheetText, printed}
 
 -- A sheet has 257 offsets at most.
 sheet-short : (mask : ℕ) (T : Table) → Inside T → length (sheetText mask T) ≤ 3119

@@ -1,8 +1,8 @@
 use Prim.Native.Nat.{_+_, _*_}
 use borrow.Author.Tests.{eq-eqb, ne-eqb}
 use borrow.Author.Needs.{needs}
-use Rattle.desk.proofs.offset_of.Statement.{statement}
-use Rattle.desk.proofs.offset_of.Tie as tie
+use Rattle.image_text.proofs.offset_of.Statement.{statement}
+use Rattle.image_text.proofs.offset_of.Tie as tie
 
 returns : tie.Need-returns
 returns c = rw (eq-eqb (c .before .args .low + 256 * c .before .args .high) 65535 (c .if1 .taken))

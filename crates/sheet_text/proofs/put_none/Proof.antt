@@ -1,8 +1,8 @@
-use Rattle.sheet_desk.specs.Printed.{noneLine}
+use Rattle.sheet_text.specs.Sheet.{noneLine}
 use Rattle.text.proofs.Buffer.{puts-then}
 use borrow.Author.Needs.{needs}
-use Rattle.sheet_desk.proofs.put_none.Statement.{statement}
-use Rattle.sheet_desk.proofs.put_none.Tie as tie
+use Rattle.sheet_text.proofs.put_none.Statement.{statement}
+use Rattle.sheet_text.proofs.put_none.Tie as tie
 
 returns : tie.Need-returns
 unfolding noneLine
