@@ -3,7 +3,6 @@
 use image_sections::Read;
 use image_writer::Written;
 use lines::put_refusal;
-use printing::put_bytes;
 use printing::put_cells;
 use printing::put_line;
 
@@ -64,6 +63,10 @@ fn put_read(out: &mut [u8], at: usize, r: Read) -> usize {
     }
 }
 
+fn wide(x: u8) -> usize {
+    x as usize
+}
+
 // Reads an image, and shows the lent cells and mark bytes: what is to spare stays as it was.
 fn read(out: &mut [u8], at: usize, image: &[u8]) -> usize {
     let mut cells = [9999u16; 4];
@@ -71,7 +74,18 @@ fn read(out: &mut [u8], at: usize, image: &[u8]) -> usize {
     let r = image_reader::read_image(image, &mut cells, &mut marks);
     let mut next = put_read(out, at, r);
     next = put_cells(out, next, &cells);
-    put_bytes(out, next, &marks)
+    put_line(out, next, b"bytes", &[wide(marks[0]), wide(marks[1])])
+}
+
+// Bytes as numbers.
+fn numbers(bytes: &[u8; 17]) -> [usize; 17] {
+    let mut numbers = [0; 17];
+    let mut i = 0;
+    while i < 17 {
+        numbers[i] = wide(bytes[i]);
+        i += 1;
+    }
+    numbers
 }
 
 // At last rule 7, just enough room, and room to spare, which stays as it was; then an image is read back.
@@ -84,7 +98,7 @@ fn main() {
     n = write_a(&mut out, n, &mut enough);
     let mut more = [99u8; 17];
     n = write_a(&mut out, n, &mut more);
-    n = put_bytes(&mut out, n, &more);
+    n = put_line(&mut out, n, b"bytes", &numbers(&more));
     n = read(&mut out, n, &enough);
     printing::print(&out, n);
 }

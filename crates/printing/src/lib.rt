@@ -31,26 +31,7 @@ pub fn put_line(out: &mut [u8], at: usize, word: &[u8], numbers: &[usize]) -> us
     put_byte(out, next, b'\n')
 }
 
-fn wide_byte(x: u8) -> usize
-    ensures { λ r. ⌜ r ≡ x ⌝ }
-{
-    x as usize
-}
-
-// The numbers of bytes.
-pub fn put_bytes(out: &mut [u8], at: usize, bytes: &[u8]) -> usize
-    ensures { λ r. ⌜ Puts (now (out .entry)) at (line (text "bytes") (now (bytes .entry))) (now (out .exit)) r ⌝ }
-{
-    let mut next = put_text(out, at, b"bytes");
-    let mut i = 0;
-    while i < bytes.len() {
-        next = put_spaced(out, next, wide_byte(bytes[i]));
-        i += 1;
-    }
-    put_byte(out, next, b'\n')
-}
-
-fn wide_cell(x: u16) -> usize
+fn wide(x: u16) -> usize
     ensures { λ r. ⌜ r ≡ x ⌝ }
 {
     x as usize
@@ -63,7 +44,7 @@ pub fn put_cells(out: &mut [u8], at: usize, cells: &[u16]) -> usize
     let mut next = put_text(out, at, b"cells");
     let mut i = 0;
     while i < cells.len() {
-        next = put_spaced(out, next, wide_cell(cells[i]));
+        next = put_spaced(out, next, wide(cells[i]));
         i += 1;
     }
     put_byte(out, next, b'\n')

@@ -23,7 +23,7 @@ loop-again : tie.Need-loop-again Inv-loop μ-loop
 loop-again c =
     let l = c .before .before .before .before .before .before .before .loop in
     let p = c .before .before .put-spaced in
-    (omega arith, spaced-next (c .before .before .before .before .before .before .before .before .before .before .before .before .before .before .before .args .cells .now) (l .i) (c .before .before .before .wide-cell .ensures) (l .inv .1) (p .ensures), p .kept .0 ∙ l .inv .2)
+    (omega arith, spaced-next (c .before .before .before .before .before .before .before .before .before .before .before .before .before .before .before .args .cells .now) (l .i) (c .before .before .before .wide .ensures) (l .inv .1) (p .ensures), p .kept .0 ∙ l .inv .2)
 
 same-length : tie.Need-same-length Inv-loop μ-loop
 same-length c = c .before .before .put-byte .kept .0 ∙ c .before .before .before .before .before .loop .inv .2 ∙ c .before .before .before .before .before .before .before .before .put-text .kept .0
