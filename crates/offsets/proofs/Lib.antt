@@ -1,4 +1,2 @@
-pub mod Rows
-pub mod Tally
 pub mod Meaning
 pub mod Promised

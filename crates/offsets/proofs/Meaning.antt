@@ -20,7 +20,7 @@ use Rattle.lengths.proofs.Cells.{len-of-cell}
 use Rattle.levels.specs.Levels.{till, under, apart, goes}
 use Rattle.levels.proofs.Sheet.{apart-below, kept-count}
 use Rattle.quick_folding.specs.Parting.{Aparts}
-use Rattle.offsets.specs.Steps.{goesAt, keptAt}
+use Rattle.sheet_counts.specs.Steps.{goesAt, keptAt}
 
 -- ---- lengths in cells
 

@@ -25,10 +25,11 @@ use Rattle.apart.specs.Finding.{leadsFrom, FoundAt, Finding}
 use Rattle.apart.proofs.Found.{from-low}
 use Rattle.sheet_rules.specs.Checks.{entries, verdict}
 use Rattle.sheet_rules.proofs.Room.{Roomy, fine-roomy}
+use Rattle.sheet_counts.specs.Steps.{keptAt, filled}
+use Rattle.sheet_counts.proofs.Filled.{filled-all}
 use Rattle.offsets.specs.declared.Listed.{Listed}
 use Rattle.offsets.specs.declared.Listed.the-variants as listed
 use Rattle.offsets.specs.Sheet.{sheet, answerBy, Promise}
-use Rattle.offsets.specs.Steps.{keptAt}
 use Rattle.offsets.proofs.Meaning.{kept-held}
 
 -- What is counted in the scratch of a valid table is the sheet.
@@ -98,7 +99,7 @@ module _ (mask : ℕ) (T : Table) (bytes : (i : ℕ) → getD (T .marks) i 0 < 2
       pub fine-rows : T .rows ≤ 1024
       fine-rows = fine-roomy mask T (length list) (length scratch) bytes (sym hu ∙ e) .valid .rows-fit
 
-      pub fine-list : entries (T .rows) ≤ length list
+      fine-list : entries (T .rows) ≤ length list
       fine-list = fine-roomy mask T (length list) (length scratch) bytes (sym hu ∙ e) .list-fits
 
       -- What was found is in the scratch s, from a cell on that is one of those needed.
@@ -108,16 +109,17 @@ module _ (mask : ℕ) (T : Table) (bytes : (i : ℕ) → getD (T .marks) i 0 < 2
             let r = fine-roomy mask T (length list) (length scratch) bytes (sym hu ∙ e) in
             told .1 .found (valid-workable T (length scratch) (r .valid) (r .scratch-fits))
 
-        pub fine-from : from ≤ length s
+        fine-from : from ≤ length s
         fine-from = omega (arith, told .0, from-low (T .rows), found .size, fine-roomy mask T (length list) (length scratch) bytes (sym hu ∙ e) .scratch-fits)
 
-        pub promised-fine : (list′ : List ℕ) {to : ℕ} {scratch′ : List ℕ} → list′ ≡ over list 0 (tabulate (entries (T .rows)) (keptAt from (T .rows) s))
+        pub promised-fine : (list′ : List ℕ) {to : ℕ} {scratch′ : List ℕ} → list′ ≡ filled from (T .rows) s list
             → to ≡ needed (T .rows) → scratch′ ≡ cleared s 0 to → Promise v mask T list scratch (listed.Entries (2 * T .rows + 1)) list′ scratch′
         promised-fine list′ {to} {scratch′} hl ht hc =
             let w : v ≡ Fine = sym hu ∙ e in
             let r = fine-roomy mask T (length list) (length scratch) bytes w in
             promise (listed.Entries (2 * T .rows + 1)) list′ scratch′ (sym (ap (λ (x : Verdict). answerBy x (entries (T .rows))) w))
-            (hl ∙ ap (λ (x : ℕ). over list 0 (tabulate (entries (T .rows)) (keptAt x (T .rows) s))) (told .0)
+            (hl ∙ filled-all from (T .rows) s list fine-list fine-from
+            ∙ ap (λ (x : ℕ). over list 0 (tabulate (entries (T .rows)) (keptAt x (T .rows) s))) (told .0)
             ∙ ap (over list 0) (sheet-found mask T (leadsFrom (T .rows)) s (r .valid) (found .aparts))
             ∙ sym (ap (λ (x : Verdict). leftBy x list (sheet (weightBy mask) T)) w))
             (hc ∙ ap (cleared s 0) ht

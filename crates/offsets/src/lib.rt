@@ -4,8 +4,6 @@ ghost use Rattle.rules.specs.Rules.{tableOf};
 ghost use Rattle.sheet_rules.specs.Checks.{verdict};
 ghost use Rattle.offsets.specs.Sheet.{Promise};
 
-mod counts;
-
 // How many entries were written, or the number and place of the first rule broken.
 pub enum Listed {
     Entries(usize),
@@ -41,7 +39,7 @@ pub fn write_sheet(
         rules::Verdict::Fine => {
             let from = apart::find_apart(mask, rows, events, start, cells, marks, scratch);
             let n = rows as u16;
-            counts::fill(scratch, from, n, list);
+            sheet_counts::fill(scratch, from, n, list);
             scratch::clear(scratch, 0, pairs::needed(n));
             Listed::Entries(2 * rows + 1)
         }

@@ -1,6 +1,6 @@
 use native.Mathlib.Omega.{arith}
 use Rattle.rules.specs.Rules.{tableOf}
-use Rattle.offsets.proofs.Promised.{promised-refused, fine-rows, fine-list, fine-from, promised-fine}
+use Rattle.offsets.proofs.Promised.{promised-refused, fine-rows, promised-fine}
 use borrow.Author.Needs.{needs}
 use Rattle.offsets.proofs.write_sheet.Statement.{statement}
 use Rattle.offsets.proofs.write_sheet.Tie as tie
@@ -9,14 +9,6 @@ cast-n : tie.Need-cast-n
 cast-n c =
     let a = c .before .before .before .before .before .before .before .before .before .before .before .args in
     record { fits = omega (arith, fine-rows (a .mask) (tableOf (a .rows) (a .events) (a .start) (a .cells .now) (a .marks .now)) (λ i. omega (arith, c .before .before .before .before .before .before .before .before .before .shared-slice-known2 .given i)) (a .list .now) (a .scratch .now) (c .before .before .before .before .before .before .check .ensures) (c .before .before .before .before .enum-told .given .1)) }
-
-fill-requires : tie.Need-fill-requires
-fill-requires c κs =
-    let a = c .before .before .before .before .before .before .before .before .before .before .before .before .before .args in
-    let T = tableOf (a .rows) (a .events) (a .start) (a .cells .now) (a .marks .now) in
-    let e = c .before .before .before .before .before .before .enum-told .given .1 in
-    let u = c .before .before .before .before .before .before .before .before .check .ensures in
-    (omega (arith, fine-list (a .mask) T (λ i. omega (arith, c .before .before .before .before .before .before .before .before .before .before .before .shared-slice-known2 .given i)) (a .list .now) (a .scratch .now) u e), fine-from (a .mask) T (λ i. omega (arith, c .before .before .before .before .before .before .before .before .before .before .before .shared-slice-known2 .given i)) (a .list .now) (a .scratch .now) u e (c .before .before .before .before .find-apart .ensures))
 
 mul-t26 : tie.Need-mul-t26
 mul-t26 c =
@@ -48,7 +40,7 @@ write-sheet-spec =
     (λ c. search needs)
     (λ c κs. search needs)
     cast-n
-    fill-requires
+    (λ c κs. search needs)
     (λ c κs. search needs)
     (λ c κs. search needs)
     mul-t26

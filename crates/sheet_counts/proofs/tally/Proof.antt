@@ -4,10 +4,10 @@ use Prim.Native.Nat.{ℕ, suc, _+_, _-_, _≤_}
 use native.Mathlib.Omega.{arith}
 use lib.ListN.{length}
 use Rattle.scratch.specs.Scratch.{cleared}
-use Rattle.offsets.proofs.Tally.{Tallied, tallied-none, tallied-small, tallied-next, tallied-all}
+use Rattle.sheet_counts.proofs.Counting.{Tallied, tallied-none, tallied-small, tallied-next, tallied-all}
 use borrow.Author.Needs.{needs}
-use Rattle.offsets.proofs.counts.tally.Statement.{statement}
-use Rattle.offsets.proofs.counts.tally.Tie as tie
+use Rattle.sheet_counts.proofs.tally.Statement.{statement}
+use Rattle.sheet_counts.proofs.tally.Tie as tie
 
 -- The loop begins with a list that was cleared.
 abbrev Inv-loop : tie.InvT-loop

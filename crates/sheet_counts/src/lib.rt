@@ -8,7 +8,7 @@ ghost use Rattle.scratch.specs.Scratch.{lenCell};
 ghost use Rattle.lengths.specs.Lengths.{lenOf};
 ghost use Rattle.levels.specs.Levels.{till};
 ghost use Rattle.sheet_rules.specs.Checks.{entries};
-ghost use Rattle.offsets.specs.Steps.{goesAt, goneAt, keptAt, counted, leftOf, Enough};
+ghost use Rattle.sheet_counts.specs.Steps.{goesAt, goneAt, keptAt, counted, leftOf, Enough, filled};
 
 // A length that has no end.
 const ENDLESS: u16 = 65535;
@@ -82,11 +82,24 @@ fn settle(list: &mut [u16], rows: u16, count: usize)
 }
 
 // Writes how many rows are kept at each offset from 0 to twice the rows.
-pub(crate) fn fill(scratch: &[u16], from: usize, rows: u16, list: &mut [u16])
+fn write_all(scratch: &[u16], from: usize, rows: u16, list: &mut [u16])
     requires { ⌜ (entries rows ≤ length (now list)) × (from ≤ length (now scratch)) ⌝ }
     ensures { λ _. ⌜ now (list .exit) ≡ over (now (list .entry)) 0 (tabulate (entries rows) (keptAt from rows (now (scratch .entry)))) ⌝ }
 {
     let count = 2 * rules::wide(rows) + 1;
     tally(scratch, from, rows, list, count);
     settle(list, rows, count);
+}
+
+// The same, where the list has room for them and the leads begin no later than the scratch ends; otherwise nothing is written.
+pub fn fill(scratch: &[u16], from: usize, rows: u16, list: &mut [u16])
+    ensures { λ _. ⌜ now (list .exit) ≡ filled from rows (now (scratch .entry)) (now (list .entry)) ⌝ }
+{
+    if list.len() < 2 * rules::wide(rows) + 1 {
+        return;
+    }
+    if scratch.len() < from {
+        return;
+    }
+    write_all(scratch, from, rows, list);
 }

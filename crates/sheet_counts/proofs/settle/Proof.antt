@@ -1,8 +1,8 @@
 use Prim.Native.Nat.{_-_, _≤_}
 use native.Mathlib.Omega.{arith}
-use Rattle.offsets.proofs.Tally.{Settled, settled-none, settled-enough, settled-next, settled-all}
-use Rattle.offsets.proofs.counts.settle.Statement.{statement}
-use Rattle.offsets.proofs.counts.settle.Tie as tie
+use Rattle.sheet_counts.proofs.Counting.{Settled, settled-none, settled-enough, settled-next, settled-all}
+use Rattle.sheet_counts.proofs.settle.Statement.{statement}
+use Rattle.sheet_counts.proofs.settle.Tie as tie
 
 abbrev Inv-loop : tie.InvT-loop
 Inv-loop list₀ rows count left₀ k₀ list left k = (k ≤ count) × Settled rows list₀ list left k

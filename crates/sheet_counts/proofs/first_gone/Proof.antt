@@ -2,10 +2,10 @@ use mathlib.Core.Path.{_∙_}
 use native.Mathlib.Omega.{arith}
 use Rattle.tables.specs.Lengths.{oneLess}
 use Rattle.lengths.specs.Lengths.{lenOf}
-use Rattle.offsets.proofs.Rows.{gone-at-once, never-apart, gone-never, gone-then}
+use Rattle.sheet_counts.proofs.Rows.{gone-at-once, never-apart, gone-never, gone-then}
 use borrow.Author.Needs.{needs}
-use Rattle.offsets.proofs.counts.first_gone.Statement.{statement}
-use Rattle.offsets.proofs.counts.first_gone.Tie as tie
+use Rattle.sheet_counts.proofs.first_gone.Statement.{statement}
+use Rattle.sheet_counts.proofs.first_gone.Tie as tie
 
 returns : tie.Need-returns
 returns c = let a = c .before .args in gone-at-once (a .least) (oneLess (lenOf (a .lead))) (c .if1 .taken)

@@ -15,7 +15,7 @@ use Rattle.tables.proofs.Lists.{tabulate-length, tabulate-same}
 use Rattle.tables.proofs.Over.{over-length, over-inside, over-behind, over-again, front-tabulate, front-at}
 use Rattle.scratch.specs.Scratch.{cleared}
 use Rattle.scratch.proofs.Cells.{clear-front}
-use Rattle.offsets.specs.Steps.{goesAt, goneAt, keptAt, counted, leftOf, Enough}
+use Rattle.sheet_counts.specs.Steps.{goesAt, goneAt, keptAt, counted, leftOf, Enough}
 
 -- ---- rows that go
 

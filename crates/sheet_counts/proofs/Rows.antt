@@ -11,7 +11,7 @@ use Rattle.scratch.specs.Scratch.{lenCell}
 use Rattle.lengths.specs.Lengths.{lenOf}
 use Rattle.lengths.proofs.Cells.{cell-endless, cell-finite}
 use Rattle.levels.specs.Levels.{till}
-use Rattle.offsets.specs.Steps.{goesAt}
+use Rattle.sheet_counts.specs.Steps.{goesAt}
 
 -- The first offset at which a row is not kept.
 pub gone-at-once : (least : ℕ) (d : Len) → least ≡ 0 → 0 ≡ lenCell (till (lenOf least) d)

@@ -1,8 +1,8 @@
 use native.Mathlib.Omega.{arith}
-use Rattle.offsets.proofs.Rows.{goes-unreached, goes-reached}
+use Rattle.sheet_counts.proofs.Rows.{goes-unreached, goes-reached}
 use borrow.Author.Needs.{needs}
-use Rattle.offsets.proofs.counts.goes_at.Statement.{statement}
-use Rattle.offsets.proofs.counts.goes_at.Tie as tie
+use Rattle.sheet_counts.proofs.goes_at.Statement.{statement}
+use Rattle.sheet_counts.proofs.goes_at.Tie as tie
 
 returns : tie.Need-returns
 returns c =

@@ -1,5 +1,5 @@
 -- How the sheet is found in a scratch s that holds, from cell `from` on, the leads of n rows, and two regions further how far each is from the rows before it.
--- What that means is in proofs/Meaning.antt.
+-- What that means is in proofs/Meaning.antt of `offsets`.
 use mathlib.Core.Bool.{cond}
 use mathlib.Core.List.{List}
 use Prim.Native.Nat.{ℕ, zero, suc, _+_, _-_, _*_, _≤_, _<_}
@@ -7,9 +7,11 @@ use lib.Dec.{eqb, ltb}
 use lib.ListN.{length, getD, set}
 use Rattle.automata.proofs.Count.{count}
 use Rattle.tables.specs.Lengths.{oneLess}
+use Rattle.tables.specs.Lists.{tabulate, over}
 use Rattle.scratch.specs.Scratch.{lenCell}
 use Rattle.lengths.specs.Lengths.{lenOf}
 use Rattle.levels.specs.Levels.{till}
+use Rattle.sheet_rules.specs.Checks.{entries}
 
 -- The first offset at which row q is not kept; 65,535 if it always is.
 unfoldable pub goesAt : ℕ → ℕ → List ℕ → ℕ → ℕ
@@ -35,3 +37,7 @@ leftOf n l (suc k) = leftOf n l k - getD l k 0
 pub record Enough (n m : ℕ) (l : List ℕ) : Type 0 where
   pub within : m ≤ length l
   pub enough : (k : ℕ) → k < m → getD l k 0 ≤ leftOf n l k
+
+-- List l with how many rows are kept at every offset over its front, if it has room for them and the leads begin no later than the scratch ends; otherwise as it was.
+unfoldable pub filled : ℕ → ℕ → List ℕ → List ℕ → List ℕ
+filled from n s l = cond (ltb (length l) (entries n)) l (cond (ltb (length s) from) l (over l 0 (tabulate (entries n) (keptAt from n s))))

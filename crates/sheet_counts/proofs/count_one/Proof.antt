@@ -1,8 +1,8 @@
 use native.Mathlib.Omega.{arith}
-use Rattle.offsets.proofs.Tally.{counted-yes, counted-no}
+use Rattle.sheet_counts.proofs.Counting.{counted-yes, counted-no}
 use borrow.Author.Needs.{needs}
-use Rattle.offsets.proofs.counts.count_one.Statement.{statement}
-use Rattle.offsets.proofs.counts.count_one.Tie as tie
+use Rattle.sheet_counts.proofs.count_one.Statement.{statement}
+use Rattle.sheet_counts.proofs.count_one.Tie as tie
 
 add-list : tie.Need-add-list
 add-list c = omega (arith, c .before .before .pre .1 (c .before .if1 .taken))
