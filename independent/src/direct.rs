@@ -220,7 +220,7 @@ pub enum Fill {
 impl Fill {
     pub const ALL: [Fill; 3] = [Fill::Pattern, Fill::Zeros, Fill::Ones];
 
-    fn cells(self, length: usize) -> Vec<u16> {
+    pub fn cells(self, length: usize) -> Vec<u16> {
         match self {
             Fill::Pattern => filled_cells(length),
             Fill::Zeros => vec![0; length],
@@ -228,7 +228,7 @@ impl Fill {
         }
     }
 
-    fn bytes(self, length: usize) -> Vec<u8> {
+    pub fn bytes(self, length: usize) -> Vec<u8> {
         match self {
             Fill::Pattern => filled_bytes(length),
             Fill::Zeros => vec![0; length],

@@ -1,6 +1,7 @@
-//! The product, called through its nine C functions.
+//! The product, called through its eleven C functions.
 
 use crate::direct::{Direct, Task, Way};
+use crate::given_up::{Asked, GivenUp};
 use crate::radio::{Answer, Functions};
 use std::fmt::Debug;
 use std::sync::{Mutex, MutexGuard};
@@ -15,6 +16,7 @@ type Function = unsafe extern "C" fn(*const u8, usize, *mut u8, usize) -> usize;
 extern "C" {
     fn gelfost_reduce_text(i: *const u8, il: usize, o: *mut u8, ol: usize) -> usize;
     fn gelfost_sheet_text(i: *const u8, il: usize, o: *mut u8, ol: usize) -> usize;
+    fn gelfost_given_up_text(i: *const u8, il: usize, o: *mut u8, ol: usize) -> usize;
     fn gelfost_write_radio(
         rows: usize,
         events: usize,
@@ -100,6 +102,23 @@ extern "C" {
         new_cells_len: usize,
         new_marks: *mut u8,
         new_marks_len: usize,
+        scratch: *mut u16,
+        scratch_len: usize,
+        answer: *mut usize,
+    );
+    fn gelfost_last_run(
+        offset: u32,
+        mask: u32,
+        rows: usize,
+        events: usize,
+        start: usize,
+        cells: *const u16,
+        cells_len: usize,
+        marks: *const u8,
+        marks_len: usize,
+        row: usize,
+        run: *mut u8,
+        run_len: usize,
         scratch: *mut u16,
         scratch_len: usize,
         answer: *mut usize,
@@ -359,6 +378,47 @@ impl Direct for Product {
             &[&way, &(offset, mask), given, &cells.len(), &marks.len(), &scratch.len()],
         );
         answer
+    }
+}
+
+impl GivenUp for Product {
+    fn last_run(&self, asked: &Asked, run: &mut [u8], scratch: &mut [u16]) -> Answer {
+        let Asked { offset, mask, ref given, row } = *asked;
+        let (mut g, mut h) = (Guarded::of(&given.cells), Guarded::of(&given.marks));
+        let (mut r, mut s) = (Guarded::of(run), Guarded::of(scratch));
+        let mut answer = [usize::FILL; 4];
+        let mut a = Guarded::of(&answer);
+        let turn = turn();
+        unsafe {
+            gelfost_last_run(
+                offset,
+                mask,
+                given.rows,
+                given.events,
+                given.start,
+                g.pointer(),
+                given.cells.len(),
+                h.pointer(),
+                given.marks.len(),
+                row,
+                r.pointer(),
+                run.len(),
+                s.pointer(),
+                scratch.len(),
+                a.pointer(),
+            )
+        }
+        drop(turn);
+        let kept = [g.unchanged(&given.cells), h.unchanged(&given.marks)];
+        let lent = [r.back(run), s.back(scratch), a.back(&mut answer)];
+        let given: [&dyn Debug; 3] = [asked, &run.len(), &scratch.len()];
+        held(kept, &given);
+        held(lent, &given);
+        answer
+    }
+
+    fn text(&self, input: &[u8]) -> Vec<u8> {
+        text(gelfost_given_up_text, input)
     }
 }
 

@@ -27,9 +27,16 @@ pub struct Spoiled {
 /// Makes calls without a fault, which find none, and with each of these faults,
 /// which must be found; tells by how many calls.
 pub fn find(what: &str, faults: &[&'static str], calls: impl Fn(&dyn Direct, Report)) {
+    find_with(what, faults, |fault, report| {
+        calls(&Spoiled { fault, own: Own::default(), levels: Mutex::default() }, report)
+    });
+}
+
+/// The same with any functions that have a fault of this name.
+pub fn find_with(what: &str, faults: &[&'static str], calls: impl Fn(&'static str, Report)) {
     let run = |fault: &'static str| {
         let (tried, found, first) = (Counter::default(), Counter::default(), OnceLock::new());
-        calls(&Spoiled { fault, own: Own::default(), levels: Mutex::default() }, &|answer| {
+        calls(fault, &|answer| {
             tried.add(1);
             if let Err(what) = answer {
                 found.add(1);

@@ -6,7 +6,7 @@ use Prim.Native.Nat.{ℕ, zero, suc, _+_, _≤_, _<_}
 use native.Mathlib.Omega.{arith}
 use native.Mathlib.Decide.{decLe}
 use Rattle.automata.specs.Nearness.{every}
-use Rattle.automata.proofs.Count.{count, count-bound, count-some, count-same}
+use Rattle.automata.proofs.Count.{count, count-bound, count-some, count-le, count-same}
 use Rattle.automata.proofs.Tests.{either, clash, not-true, flip-true, last-or-less, every-at, every-make}
 
 -- ---- classes
@@ -74,6 +74,11 @@ least n R e q h =
 module _ (n : ℕ) (F G : ℕ → ℕ → Bool) (f : Equivalence n F) (g : Equivalence n G) (fine : (q p : ℕ) → q < n → p < n → F q p ≡ true → G q p ≡ true) where
   lowest-fine : (q : ℕ) → q < n → lowest G q ≡ true → lowest F q ≡ true
   lowest-fine q h t = lowest-make F q (λ p l. not-true (F p q) (λ x. clash (fine p q (omega arith) h x) (lowest-at G q p t l)))
+
+  -- The finer one has no fewer classes.
+  pub classes-fine : classes n G ≤ classes n F
+  unfolding classes
+  classes-fine = count-le (lowest G) (lowest F) n lowest-fine
 
   lowest-one : (r t : ℕ) → r < n → t < n → lowest G r ≡ true → lowest G t ≡ true → G r t ≡ true → r ≡ t
   lowest-one r t hr ht lr lt x = pick (decLe r t) (decLe t r)

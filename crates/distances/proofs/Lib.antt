@@ -5,5 +5,4 @@ pub mod Lowering
 pub mod Levels
 pub mod Final
 pub mod Rising
-pub mod Symmetry
 pub mod Measured

@@ -22,7 +22,7 @@ use Rattle.tables.proofs.Counted.{mask-light}
 use Rattle.pairs.proofs.Works.{workable-shape, workable-sound}
 use Rattle.distances.specs.Distances.{distanceCells, measured}
 use Rattle.distances.specs.Search.{eventsBy, machineBy, Given}
-use Rattle.distances.proofs.Symmetry.{distance-turn, distance-self, distance-same}
+use Rattle.tables.proofs.Symmetry.{distance-turn, distance-self, distance-same}
 
 -- The distance of two rows, in a cell.
 abbrev pub cellOf : ℕ → Table → ℕ → ℕ → ℕ

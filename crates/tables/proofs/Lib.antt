@@ -3,6 +3,7 @@ pub mod Lists
 pub mod Over
 pub mod Marks
 pub mod Lengths
+pub mod Symmetry
 pub mod Similar
 pub mod Folds
 pub mod Numbering

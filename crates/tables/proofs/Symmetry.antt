@@ -26,7 +26,7 @@ module _ {E : Events} {M N : Machine} (s : Sound E M) (t : Sound E N) (z : Light
   after-same [] q = refl
   after-same (a ∷ w) q = after-same w (M .target q a) ∙ ap (λ (p : ℕ). after N p w) (target q a)
 
-  shows-same : (w : List ℕ) (q : ℕ) → M .mark (after M q w) ≡ N .mark (after N q w)
+  pub shows-same : (w : List ℕ) (q : ℕ) → M .mark (after M q w) ≡ N .mark (after N q w)
   shows-same w q = mark (after M q w) ∙ ap (N .mark) (after-same w q)
 
   to : {L q p : ℕ} → Near E M M L q p → Near E N N L q p

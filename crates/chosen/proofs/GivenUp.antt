@@ -1,0 +1,90 @@
+-- A folded row has a finite distance to the row that it folds into, so what it gives up is that distance and the chosen run.
+use mathlib.Core.Path.{_≡_, refl, sym, ap, subst, _∙_}
+use mathlib.Core.Bool.{Bool, true, false}
+use mathlib.Core.List.{[]}
+use mathlib.Core.Logic.{inl}
+use Prim.Native.Nat.{ℕ, _*_, _≤_, _<_}
+use native.Mathlib.Omega.{arith}
+use lib.Dec.{eqb}
+use Rattle.automata.specs.Runs.{Events, Machine, Sound, Light, Near, Len, len, endless, IsDistance}
+use Rattle.tables.specs.Lengths.{distance, reached}
+use Rattle.tables.specs.Table.{Table, Offset, offset, none, Valid, machine, eventsOf}
+use Rattle.tables.specs.Lists.{some as holds}
+use Rattle.tables.specs.Reduction.{Fate, keptAs, foldedInto, unreached, fateBy, fateOf, kept, fold, number}
+use Rattle.tables.proofs.Lengths.{distance-is, reached-is}
+use Rattle.tables.proofs.Folds.{folding, kept-order}
+use Rattle.tables.proofs.NoOffset.{fold-none}
+use Rattle.tables.proofs.Reduced.{sound-of}
+use Rattle.chosen.specs.Choice.{IsChosen, chosen, runOr}
+use Rattle.chosen.specs.GivenUp.{farOf, givenBy, givenUp, IsLoss}
+use Rattle.chosen.proofs.Steps.{chosen-exists}
+use Rattle.chosen.proofs.Theorems.{is-chosen-at, none-chosen}
+
+module _ {E : Events} {M : Machine} (s : Sound E M) (z : Light E) where
+  finite-near : {L q p : ℕ} → q < M .rows → p < M .rows → Near E M M L q p → (D : ℕ) × (distance E M q p ≡ len D)
+  finite-near {L} {q} {p} hq hp n = pick (distance E M q p) refl (distance-is s z hq hp)
+    where
+      pick : (x : Len) → distance E M q p ≡ x → IsDistance E M q p x → (D : ℕ) × (distance E M q p ≡ len D)
+      pick (len D) e h = (D, e)
+      pick endless e h = absurd (h L n)
+
+  fold-near : (k q : ℕ) → q < M .rows → reached E M q ≡ true
+      → (fold E M (offset k) q < M .rows) × ((D : ℕ) × (distance E M q (fold E M (offset k) q) ≡ len D))
+  fold-near k q hq u =
+      let f = folding s z k in
+      let r = reached-is s z q hq u in
+      let hp = kept-order s z k (fold E M (offset k) q) (f .fold-kept q r) .0 in
+      (hp, finite-near hq hp (f .fold-alike q r))
+
+  fold-finite : (k : Offset) (q : ℕ) → q < M .rows → reached E M q ≡ true
+      → (fold E M k q < M .rows) × ((D : ℕ) × (distance E M q (fold E M k q) ≡ len D))
+  fold-finite (offset k) q hq u = fold-near k q hq u
+  fold-finite none q hq u = subst (λ (f : ℕ → ℕ). (f q < M .rows) × ((D : ℕ) × (distance E M q (f q) ≡ len D)))
+      (sym (fold-none E M (2 * M .rows) (omega arith) (omega arith))) (fold-near (2 * M .rows) q hq u)
+
+  gives-up : (q p D : ℕ) → q < M .rows → p < M .rows → distance E M q p ≡ len D → IsLoss E M q p (record { far = farOf (distance E M q p); run = runOr (chosen E M q p) })
+  gives-up q p D hq hp e =
+      let d : IsDistance E M q p (len D) = subst (IsDistance E M q p) e (distance-is s z hq hp) in
+      let g : farOf (distance E M q p) ≡ D = ap farOf e in
+      record {
+        row = hp;
+        distant = subst (λ (c : ℕ). IsDistance E M q p (len c)) (sym g) d;
+        is-chosen = λ h.
+            let x = chosen-exists s z hq hp d (omega arith) in
+            let r : runOr (chosen E M q p) ≡ x .0 = ap runOr (is-chosen-at s z hq hp e (x .1)) in
+            subst (λ (c : ℕ). IsChosen E M q p c (runOr (chosen E M q p))) (sym g) (subst (IsChosen E M q p D) (sym r) (x .1));
+        is-empty = λ h. let c : D ≡ 0 = omega arith in ap runOr (none-chosen s z hq hp (inl (e ∙ ap len c)));
+      }
+
+-- What is known of a row with a given fate.
+fate-folded : (b c : Bool) (i p r : ℕ) → fateBy b c i p ≡ foldedInto r → (b ≡ true) × (p ≡ r)
+fate-folded false c i p r e = let g : _≡_ {A = ℕ} 0 1 = cc in absurd (omega arith)
+fate-folded true true i p r e = let g : _≡_ {A = ℕ} 0 1 = cc in absurd (omega arith)
+fate-folded true false i p r e = (refl, cc)
+
+module _ (weight : ℕ → ℕ) (light : (a : ℕ) → weight a ≤ 1) (T : Table) (v : Valid T) where
+  abbrev E : Events
+  E = eventsOf weight T
+
+  abbrev M : Machine
+  M = machine T
+
+  -- A folded row gives up its distance to the row that it folds into, and their chosen run.
+  pub given-folded : (k : Offset) (q p : ℕ) → q < T .rows → fateOf E M k q ≡ foldedInto p → IsLoss E M q p (givenUp weight k T q)
+  unfolding fateOf givenUp
+  given-folded k q p hq e =
+      let s = sound-of weight T T refl v in
+      let z : Light (eventsOf weight T) = record { at-most = light } in
+      let f = fate-folded (reached E M q) (holds (eqb q) (kept E M k)) (number (E .count) M (fold E M k) q) (fold E M k q) p e in
+      let h = fold-finite s z k q hq (f .0) in
+      let x = subst (λ (r : ℕ). (r < T .rows) × ((D : ℕ) × (distance E M q r ≡ len D))) (f .1) h in
+      subst (λ (y : Fate). IsLoss E M q p (givenBy E M q y)) (sym e) (gives-up s z q p (x .1 .0) hq (x .0) (x .1 .1))
+
+  -- A kept or unreached one gives up nothing.
+  pub given-kept : (k : Offset) (q i : ℕ) → fateOf E M k q ≡ keptAs i → givenUp weight k T q ≡ record { far = 0; run = [] }
+  unfolding givenUp
+  given-kept k q i e = ap (givenBy E M q) e
+
+  pub given-unreached : (k : Offset) (q : ℕ) → fateOf E M k q ≡ unreached → givenUp weight k T q ≡ record { far = 0; run = [] }
+  unfolding givenUp
+  given-unreached k q e = ap (givenBy E M q) e

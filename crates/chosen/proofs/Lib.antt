@@ -1,0 +1,9 @@
+pub mod Orders
+pub mod Search
+pub mod Steps
+pub mod Bound
+pub mod Rounds
+pub mod Theorems
+pub mod Start
+pub mod GivenUp
+pub mod Cases

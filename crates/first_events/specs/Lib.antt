@@ -1,0 +1,2 @@
+pub mod FirstEvents
+pub mod Passes

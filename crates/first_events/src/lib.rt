@@ -1,0 +1,285 @@
+// The distance of each pair of rows with the first event of its chosen run, or the run's end: from the distances, in rounds over the length of the run in all its events.
+ghost use mathlib.Core.Path.{_≡_};
+ghost use mathlib.Core.Bool.{true, false};
+ghost use mathlib.Core.List.{List};
+ghost use Prim.Native.Nat.{ℕ, _+_, _≤_, _<_};
+ghost use lib.ListN.{length};
+ghost use Rattle.tables.specs.Table.{markOf};
+ghost use Rattle.rules.specs.Rules.{tableOf};
+ghost use Rattle.row_starts.specs.RowStarts.{rowStarts};
+ghost use Rattle.scratch.specs.Tests.{Tested};
+ghost use Rattle.chosen.specs.declared.First.the-variants.{Unsettled};
+ghost use Rattle.pairs.specs.Pairs.{triangle, pairAt, workable};
+ghost use Rattle.measures.specs.Measures.{settledAt};
+ghost use Rattle.distances.specs.Search.{eventsBy, machineBy};
+ghost use Rattle.first_events.specs.FirstEvents.{told};
+ghost use Rattle.first_events.specs.Passes.{Ready, Lowest, Ended, Taken, Settled, Turned, Visited, Before, Sweeping};
+use chosen::First;
+
+// The passes over all pairs.
+pub enum Pass {
+    Ends,
+    Takes,
+    Settles,
+}
+
+// The cell of a settled pair.
+fn mixed(distance: u16, number: u16) -> u16
+    requires { ⌜ (distance < 1024) × (number ≤ 32) ⌝ }
+    ensures { λ r. ⌜ r ≡ settledAt distance number ⌝ }
+{
+    33 * (distance + 31) + number
+}
+
+// Whether anything is known of a run.
+fn known(first: First) -> bool
+    ensures { λ r. ⌜ Tested r (first ≡ Unsettled → ⊥) ⌝ }
+{
+    match first {
+        First::Unsettled => false,
+        First::End => true,
+        First::Event(_) => true,
+    }
+}
+
+// The first pass: where two rows are at distance 1 and their marks differ, their run is at its end.
+fn ended(
+    mask: u32,
+    rows: u16,
+    events: u16,
+    cells: &[u16],
+    marks: &[u8],
+    scratch: &[u16],
+    q: u16,
+    p: u16,
+    cell: u16,
+) -> u16
+    requires { ⌜ cell ≡ pairAt (now scratch) q p ⌝ }
+    ensures { λ r. ⌜ Ended (eventsBy mask events) (machineBy rows events (now (cells .entry)) (now (marks .entry))) (pairAt (now (scratch .entry))) q p r ⌝ }
+{
+    if cell != 1 {
+        return cell;
+    }
+    if marks::mark(marks, rules::wide(q)) == marks::mark(marks, rules::wide(p)) {
+        return cell;
+    }
+    mixed(1, 32)
+}
+
+// Whether an event leads to a settled pair whose distance is less by the event's weight.
+fn ready(
+    mask: u32,
+    rows: u16,
+    events: u16,
+    cells: &[u16],
+    marks: &[u8],
+    starts: &[u32],
+    scratch: &[u16],
+    distance: u16,
+    q: u16,
+    p: u16,
+    event: u16,
+) -> bool
+    requires { ⌜ now starts ≡ rowStarts ⌝ }
+    ensures { λ r. ⌜ Tested r (Ready (eventsBy mask events) (machineBy rows events (now (cells .entry)) (now (marks .entry))) (pairAt (now (scratch .entry))) distance q p event) ⌝ }
+{
+    let i = scratch::target(cells, events, q, event);
+    let j = scratch::target(cells, events, p, event);
+    let led = measures::between(starts, scratch, i, j);
+    let far = led.distance;
+    let first = led.first;
+    if known(first) {
+        return rules::wide(far) + rules::wide(weights::weight(mask, event)) == rules::wide(distance);
+    }
+    false
+}
+
+// The lowest event that is ready; the number of events if none is.
+fn first_ready(
+    mask: u32,
+    rows: u16,
+    events: u16,
+    cells: &[u16],
+    marks: &[u8],
+    starts: &[u32],
+    scratch: &[u16],
+    distance: u16,
+    q: u16,
+    p: u16,
+) -> u16
+    requires { ⌜ now starts ≡ rowStarts ⌝ }
+    ensures { λ r. ⌜ Lowest (eventsBy mask events) (machineBy rows events (now (cells .entry)) (now (marks .entry))) (pairAt (now (scratch .entry))) distance q p events r ⌝ }
+{
+    let mut event = 0;
+    while event < events {
+        if ready(
+            mask,
+            rows,
+            events,
+            cells,
+            marks,
+            starts,
+            scratch,
+            distance,
+            q,
+            p,
+            event,
+        ) {
+            return event;
+        }
+        event += 1;
+    }
+    events
+}
+
+// In a round, an unsettled pair takes the lowest event that is ready.
+fn taken(
+    mask: u32,
+    rows: u16,
+    events: u16,
+    cells: &[u16],
+    marks: &[u8],
+    starts: &[u32],
+    scratch: &[u16],
+    q: u16,
+    p: u16,
+    cell: u16,
+) -> u16
+    requires { ⌜ now starts ≡ rowStarts ⌝ }
+    requires { ⌜ cell ≡ pairAt (now scratch) q p ⌝ }
+    requires { ⌜ events ≤ 32 ⌝ }
+    ensures { λ r. ⌜ Taken (eventsBy mask events) (machineBy rows events (now (cells .entry)) (now (marks .entry))) (pairAt (now (scratch .entry))) q p r ⌝ }
+{
+    if 1024 <= cell {
+        return cell;
+    }
+    let event = first_ready(mask, rows, events, cells, marks, starts, scratch, cell, q, p);
+    if event < events {
+        return 1024 + event;
+    }
+    cell
+}
+
+// After it, a pair that took an event is settled.
+fn settled(
+    mask: u32,
+    rows: u16,
+    events: u16,
+    cells: &[u16],
+    marks: &[u8],
+    starts: &[u32],
+    scratch: &[u16],
+    q: u16,
+    p: u16,
+    cell: u16,
+) -> u16
+    requires { ⌜ now starts ≡ rowStarts ⌝ }
+    requires { ⌜ cell ≡ pairAt (now scratch) q p ⌝ }
+    ensures { λ r. ⌜ Settled (eventsBy mask events) (machineBy rows events (now (cells .entry)) (now (marks .entry))) (pairAt (now (scratch .entry))) q p r ⌝ }
+{
+    if cell < 1024 {
+        return cell;
+    }
+    if 1056 <= cell {
+        return cell;
+    }
+    let event = cell - 1024;
+    let i = scratch::target(cells, events, q, event);
+    let j = scratch::target(cells, events, p, event);
+    let led = measures::between(starts, scratch, i, j);
+    let far = led.distance;
+    let distance = rules::wide(far) + rules::wide(weights::weight(mask, event));
+    if 1024 <= distance {
+        return cell;
+    }
+    mixed(distance as u16, event)
+}
+
+// One pair's turn in a pass; whether its cell changed.
+fn visit(
+    pass: Pass,
+    mask: u32,
+    rows: u16,
+    events: u16,
+    cells: &[u16],
+    marks: &[u8],
+    starts: &[u32],
+    scratch: &mut [u16],
+    q: u16,
+    p: u16,
+) -> bool
+    requires { ⌜ now starts ≡ rowStarts ⌝ }
+    requires { ⌜ (p < q) × (events ≤ 32) ⌝ }
+    ensures { λ r. ⌜ Visited pass (eventsBy mask events) (machineBy rows events (now (cells .entry)) (now (marks .entry))) q p (now (scratch .entry)) (now (scratch .exit)) r ⌝ }
+{
+    let at = pairs::row_start(starts, q) + rules::wide(p);
+    let cell = scratch::cell(scratch, at);
+    let next = match pass {
+        Pass::Ends => ended(mask, rows, events, cells, marks, scratch, q, p, cell),
+        Pass::Takes => taken(mask, rows, events, cells, marks, starts, scratch, q, p, cell),
+        Pass::Settles => settled(mask, rows, events, cells, marks, starts, scratch, q, p, cell),
+    };
+    if next == cell {
+        return false;
+    }
+    scratch::put(scratch, at, next);
+    true
+}
+
+// A turn of each pair of row q and a lower row.
+fn sweep_row(
+    pass: Pass,
+    mask: u32,
+    rows: u16,
+    events: u16,
+    cells: &[u16],
+    marks: &[u8],
+    starts: &[u32],
+    scratch: &mut [u16],
+    q: u16,
+) -> bool
+    requires { ⌜ now starts ≡ rowStarts ⌝ }
+    requires { ⌜ (q < rows) × (events ≤ 32) ⌝ }
+    ensures { λ r. ⌜ (let E = eventsBy mask events in let M = machineBy rows events (now (cells .entry)) (now (marks .entry)) in let s = now (scratch .entry) in let t = now (scratch .exit) in
+        ((s₀ : List ℕ) → triangle rows ≤ length s₀ → Before pass E M (pairAt s₀) → Sweeping pass E M (triangle q) s₀ s → Sweeping pass E M (triangle q + q) s₀ t)
+        × (r ≡ false → t ≡ s)) ⌝ }
+{
+    let mut changed = false;
+    let mut p = 0;
+    while p < q {
+        let hit = visit(pass, mask, rows, events, cells, marks, starts, scratch, q, p);
+        p += 1;
+        if hit {
+            changed = true;
+        }
+    }
+    changed
+}
+
+// A turn of every pair.
+fn sweep(
+    pass: Pass,
+    mask: u32,
+    rows: u16,
+    events: u16,
+    cells: &[u16],
+    marks: &[u8],
+    scratch: &mut [u16],
+) -> bool
+    requires { ⌜ events ≤ 32 ⌝ }
+    ensures { λ r. ⌜ (let E = eventsBy mask events in let M = machineBy rows events (now (cells .entry)) (now (marks .entry)) in let s = now (scratch .entry) in let t = now (scratch .exit) in
+        (triangle rows ≤ length s → Before pass E M (pairAt s) → Sweeping pass E M (triangle rows) s t)
+        × (r ≡ false → t ≡ s)) ⌝ }
+{
+    let starts = row_starts::table();
+    let mut changed = false;
+    let mut q = 0;
+    while q < rows {
+        let hit = sweep_row(pass, mask, rows, events, cells, marks, &starts, scratch, q);
+        q += 1;
+        if hit {
+            changed = true;
+        }
+    }
+    changed
+}
