@@ -167,8 +167,6 @@ pub fn all_chosen(study: &Study, runs: &[(usize, usize)]) -> Vec<Chosen> {
     let two = |pair: usize| (pair / rows, pair % rows);
     (0..rows * rows)
         .map(two)
-        .map(|(one, other)| {
-            followed.chosen_at(&lengths, one, other, study.distance(one, other))
-        })
+        .map(|(one, other)| followed.chosen_at(&lengths, one, other, study.distance(one, other)))
         .collect()
 }

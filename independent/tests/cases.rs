@@ -1,10 +1,12 @@
 //! (d) Document 01's own cases: every case of "Tables to try", and every row
 //! of "Refused, and on what" that `reduce` can show. The expected texts are
 //! written here by hand from the document, not made by rules.rs. So are the sheets
-//! of request 101, the radio images and packs of request 102, and the listings
-//! with idle events of request 104.
+//! of request 101, the radio images and packs of request 102, the listings with idle
+//! events of request 104, and the distances and runs of request 106.
 
 use independent::calls::{compare, Call, Numbers, Outcome};
+use independent::direct::Fill;
+use independent::given_up::{self, Asked, GivenUp};
 use independent::product::{reduce_text, sheet_text, Product};
 use independent::radio::Answer;
 use independent::rules::{text_for, Length, Study};
@@ -22,13 +24,17 @@ fn at_0(image: &str) -> Vec<u8> {
 }
 
 /// The product's text is the expected one; rules.rs's too. What `reduce` refuses
-/// of a mask and an image, `sheet` refuses of them without the offset.
+/// of a mask and an image, `sheet` refuses of them without the offset, and the
+/// program of request 106 with it.
 fn prints(input: &[u8], expected: &str) {
     let printed = reduce_text(input);
     assert_eq!(String::from_utf8_lossy(&printed), expected, "product, input {input:x?}");
     assert_eq!(text_for(input), expected, "own reading, input {input:x?}");
     if input.len() >= 2 && expected.starts_with("refused") {
         prints_sheet(&input[2..], expected);
+    }
+    if expected.starts_with("refused") {
+        prints_given_up(input, expected);
     }
 }
 
@@ -37,6 +43,13 @@ fn prints_sheet(input: &[u8], expected: &str) {
     let printed = sheet_text(input);
     assert_eq!(String::from_utf8_lossy(&printed), expected, "product, input {input:x?}");
     assert_eq!(sheet::text_for(input), expected, "own reading, input {input:x?}");
+}
+
+/// The same for what is given up where rows fold.
+fn prints_given_up(input: &[u8], expected: &str) {
+    let printed = Product.text(input);
+    assert_eq!(String::from_utf8_lossy(&printed), expected, "product, input {input:x?}");
+    assert_eq!(given_up::text_for(input), expected, "own reading, input {input:x?}");
 }
 
 const W: bool = false; // waiting
@@ -588,6 +601,242 @@ fn sheets_of_a_way_by_turns() {
         }
         prints_sheet(&by_turns().sheet_input(mask), &(expected + "none 1\n"));
     }
+}
+
+/// What is given up of a table (request 106) at these offsets. Each line is of a folded row:
+/// its number, the row that it folds into, the distance, and the run. So the program prints,
+/// and so answers the call for each row; all others give 0 and an empty run. A buffer that is
+/// one byte too short for a run gives 18.
+fn gives_up(
+    table: &Table,
+    mask: Mask,
+    offsets: &[Option<usize>],
+    lines: &[(usize, usize, usize, &[u8])],
+) {
+    for &offset in offsets {
+        let mut text = String::new();
+        for (row, into, distance, run) in lines {
+            text += &format!("{row} folded {into} distance {distance} run");
+            run.iter().for_each(|event| text += &format!(" {event}"));
+            text += "\n";
+        }
+        prints_given_up(&table.input(offset, mask), &text);
+        for row in 0..table.rows {
+            let line = lines.iter().find(|line| line.0 == row);
+            let (distance, run) = line.map_or((0, &[][..]), |line| (line.2, line.3));
+            for lent in [run.len(), run.len() + 2, run.len().max(1) - 1] {
+                let call = asking(table, mask, offset, row, lent);
+                leaves("a row", &call, &call.expecting(distance, run));
+            }
+        }
+    }
+}
+
+/// A call for a row that lends so many bytes for the run, and three scratch cells more than are
+/// named.
+fn asking(
+    table: &Table,
+    mask: Mask,
+    offset: Option<usize>,
+    row: usize,
+    run: usize,
+) -> given_up::Call {
+    let offset = offset.map_or(65_536, |k| k as u32);
+    let scratch = table.rows * (table.rows - 1) / 2 + 4 * table.rows + 3;
+    let asked = Asked { offset, mask, given: Numbers::of(table), row };
+    given_up::Call { asked, run, scratch, fill: Fill::Pattern }
+}
+
+/// Answer and buffers afterwards are these, by the product and by the own reading.
+fn leaves(what: &str, call: &given_up::Call, expected: &given_up::Left) {
+    assert_eq!(call.by(&Product), *expected, "product, {what}: {call}");
+    assert_eq!(call.by(&given_up::Own::default()), *expected, "own reading, {what}: {call}");
+}
+
+/// Rows 0, 1 and 2 of C against row 3, which stays and waits. Row 0 is ready after one event
+/// (row 1), waits after none and after two: the last run that differs has one event, distance
+/// 2. Row 1 is ready at once and then never: the empty run, distance 1. Row 2 always waits:
+/// distance 0. By C2 all three fold into row 3, by C1, and so at offset 0, row 2 alone.
+#[test]
+fn given_up_of_c() {
+    let all: [Option<usize>; 5] = [Some(2), Some(3), Some(8), Some(65_534), None];
+    gives_up(&c(), 1, &all, &[(0, 3, 2, &[0]), (1, 3, 1, &[]), (2, 3, 0, &[])]);
+    gives_up(&c(), 1, &[Some(0), Some(1)], &[(2, 3, 0, &[])]);
+    // As it is printed.
+    let c2 = "0 folded 3 distance 2 run 0\n1 folded 3 distance 1 run\n2 folded 3 distance 0 run\n";
+    prints_given_up(&c().input(Some(2), 1), c2);
+    prints_given_up(&c().input(Some(1), 1), "2 folded 3 distance 0 run\n");
+}
+
+/// D's start, row 3. At offset 0 it folds into row 2, with which it agrees on all runs; from
+/// offset 1 on into row 1, which is ready where row 3 waits; after any event both are on row 0.
+#[test]
+fn given_up_of_d() {
+    gives_up(&d(), 3, &[Some(0)], &[(3, 2, 0, &[])]);
+    gives_up(&d(), 3, &[Some(1), Some(2), Some(8), None], &[(3, 1, 1, &[])]);
+    prints_given_up(&d().input(Some(0), 3), "3 folded 2 distance 0 run\n");
+    prints_given_up(&d().input(Some(1), 3), "3 folded 1 distance 1 run\n");
+    // None counted: from offset 1 on all fold into row 0, and every run has length 0. Row 1 is
+    // ready where row 0 waits. Rows 2 and 3 wait as row 0 does; event 0 leads from them to row
+    // 0, from row 0 to row 1, which is ready.
+    gives_up(&d(), 0, &[Some(0)], &[(3, 2, 0, &[])]);
+    let all = [(1, 0, 1, &[][..]), (2, 0, 1, &[0]), (3, 0, 1, &[0])];
+    gives_up(&d(), 0, &[Some(1), Some(8), None], &all);
+}
+
+/// A: row 0 is ready where row 2 waits, and rows 1 and 2 agree. B, E: nothing folds. F: row 1 is
+/// unreached. With none counted rows 1 and 2 of A fold into row 0 from offset 1 on.
+#[test]
+fn given_up_of_the_other_tables() {
+    gives_up(&a(), 1, &[Some(0)], &[(1, 2, 0, &[])]);
+    gives_up(&a(), 1, &[Some(1), Some(2), None], &[(0, 2, 1, &[]), (1, 2, 0, &[])]);
+    gives_up(&a(), 0, &[Some(0)], &[(2, 1, 0, &[])]);
+    gives_up(&a(), 0, &[Some(1), Some(2), None], &[(1, 0, 1, &[]), (2, 0, 1, &[])]);
+    for offset in [Some(0), Some(1), Some(6), None] {
+        gives_up(&b(), 3, &[offset], &[]);
+        gives_up(&e(W), 3, &[offset], &[]);
+        gives_up(&e(R), 3, &[offset], &[]);
+        gives_up(&f(), 1, &[offset], &[]);
+        prints_given_up(&b().input(offset, 3), "");
+    }
+}
+
+/// A chain with ready rows 0 and 2. Row 0 differs from the last row after no event and after
+/// two, not after one: the last run that differs has two. Together with the depths all are 3:
+/// before offset 3 nothing folds.
+#[test]
+fn the_last_run_not_the_shortest() {
+    let given = Table::new(1, 0, &[1, 2, 3, 3], &[R, W, R, W]);
+    let all = [(0, 3, 3, &[0, 0][..]), (1, 3, 2, &[0]), (2, 3, 1, &[])];
+    gives_up(&given, 1, &[Some(3), Some(8), None], &all);
+    gives_up(&given, 1, &[Some(0), Some(1), Some(2)], &[]);
+}
+
+/// The way by the events 1 0 1 to the only ready row: no other run from row 0 differs from row
+/// 4, which stays and waits. With event 1 idle one event counts: the run has three events and
+/// the distance is 2; from row 2 the run is the idle event alone, distance 1. With event 0 idle
+/// two events of the whole way count, one from row 1 and one from row 2 on. With both counted
+/// the distances are one more than the lengths.
+#[test]
+fn runs_with_idle_events() {
+    let way: [&[u8]; 4] = [&[1, 0, 1], &[0, 1], &[1], &[]];
+    let lines = |distance: [usize; 4]| [0, 1, 2, 3].map(|row| (row, 4, distance[row], way[row]));
+    gives_up(&by_turns(), 1, &[Some(2), Some(3), None], &lines([2, 2, 1, 1]));
+    gives_up(&by_turns(), 1, &[Some(0), Some(1)], &[]);
+    gives_up(&by_turns(), 2, &[Some(3), None], &lines([3, 2, 2, 1]));
+    gives_up(&by_turns(), 3, &[Some(4), None], &lines([4, 3, 2, 1]));
+    prints_given_up(
+        &by_turns().input(Some(2), 1),
+        "0 folded 4 distance 2 run 1 0 1\n\
+         1 folded 4 distance 2 run 0 1\n\
+         2 folded 4 distance 1 run 1\n\
+         3 folded 4 distance 1 run\n",
+    );
+    // None counted: all fold into row 0, at distance 1. Row 1 comes to row 3 by 0 1, while row 0
+    // goes to row 4; before that all wait. Row 2 comes there by 1. Row 3 is ready at once. Row 4
+    // stays, and row 0 comes to row 3 by 1 0 1.
+    let all = [(1, 0, 1, &[0, 1][..]), (2, 0, 1, &[1]), (3, 0, 1, &[]), (4, 0, 1, &[1, 0, 1])];
+    gives_up(&by_turns(), 0, &[Some(1), Some(5), None], &all);
+    gives_up(&by_turns(), 0, &[Some(0)], &[]);
+}
+
+/// The circles with event 1 idle. At offset 1 row 1 folds into row 0, which is ready where it
+/// waits. From offset 2 on all fold into row 4. Rows 0 and 1 come by event 0 to row 2, which
+/// waits, and from there by event 1 to row 3, which is ready; by 1 0 they come to row 2. Row 2
+/// comes to row 3 by event 1. With none counted all fold into row 0 at distance 1; row 3 is ready
+/// as row 0 is. By event 0 they come to rows 4 and 2, by event 1 to rows 2 and 1, and all these
+/// wait; by 0 0 both to row 4; by 0 1 row 0 comes to row 3.
+#[test]
+fn runs_around_idle_circles() {
+    gives_up(&circles(), 1, &[Some(0)], &[]);
+    gives_up(&circles(), 1, &[Some(1)], &[(1, 0, 1, &[])]);
+    let all = [(0, 4, 2, &[0, 1][..]), (1, 4, 2, &[0, 1]), (2, 4, 1, &[1]), (3, 4, 1, &[])];
+    gives_up(&circles(), 1, &[Some(2), Some(3), Some(10), None], &all);
+    let all = [(1, 0, 1, &[][..]), (2, 0, 1, &[]), (3, 0, 1, &[0, 1]), (4, 0, 1, &[])];
+    gives_up(&circles(), 0, &[Some(1), None], &all);
+    for mask in [2, 3] {
+        gives_up(&circles(), mask, &[Some(0), Some(1), None], &[]);
+    }
+}
+
+/// "then the lowest by events": events 1 and 2 lead from row 0 to row 1, which is ready, event 0
+/// to row 2, where all ends. Where event 1 counts the run is event 1. If it is idle and event 2
+/// counts, only event 2 is a run that differs and has a counted event. If event 0 alone counts,
+/// the run has no counted event, and is event 1 again.
+#[test]
+fn the_lowest_run() {
+    let given = Table::new(3, 0, &[2, 1, 1, 2, 2, 2, 2, 2, 2], &[W, R, W]);
+    for (mask, event) in [(7, 1), (3, 1), (5, 2), (6, 1)] {
+        gives_up(&given, mask, &[Some(2), None], &[(0, 2, 2, &[event]), (1, 2, 1, &[])]);
+        gives_up(&given, mask, &[Some(0), Some(1)], &[]);
+    }
+    gives_up(&given, 1, &[Some(1), Some(2), None], &[(0, 2, 1, &[1]), (1, 2, 1, &[])]);
+}
+
+/// "the shortest such in all its events, then the lowest": event 0, which is idle, leads from
+/// row 0 to row 1, where it stays; event 1 leads from both to row 2, which is ready, and from
+/// there to row 3, where all ends. The runs 0 1 and 0 0 1 are lower than 1, but longer. At
+/// offset 1 rows 0 and 1, which agree, fold together, the rest is kept.
+#[test]
+fn the_shortest_before_the_lowest() {
+    let given = Table::new(2, 0, &[1, 2, 1, 2, 3, 3, 3, 3], &[W, W, R, W]);
+    let all = [(0, 3, 2, &[1][..]), (1, 3, 2, &[1]), (2, 3, 1, &[])];
+    gives_up(&given, 2, &[Some(2), Some(8), None], &all);
+    gives_up(&given, 2, &[Some(0), Some(1)], &[(1, 0, 0, &[])]);
+}
+
+/// C at offset 2, row 0, with something wrong: the answer, and nothing is changed but by 18.
+/// "four rows need 22 scratch cells"; the run has one event. Where two rules are broken the
+/// first gives the answer: 1 to 6 in number order, 16, 7, 18.
+#[test]
+fn refusals_of_what_is_given_up() {
+    type Line<'a> = (&'a str, fn(&mut given_up::Call), [usize; 2]);
+    let lines: [Line; 24] = [
+        ("no rows", |c| c.asked.given.rows = 0, [1, 0]),
+        ("1,025 rows", |c| c.asked.given.rows = 1025, [1, 0]),
+        ("no events", |c| c.asked.given.events = 0, [2, 0]),
+        ("33 events", |c| c.asked.given.events = 33, [2, 0]),
+        ("a cell more", |c| c.asked.given.cells.push(0), [3, 0]),
+        ("no marks", |c| c.asked.given.marks.clear(), [3, 0]),
+        ("the start", |c| c.asked.given.start = 4, [4, 0]),
+        ("row 4 of four", |c| c.asked.row = 4, [4, 0]),
+        ("row 65,536", |c| c.asked.row = 65_536, [4, 0]),
+        ("the greatest number as row", |c| c.asked.row = usize::MAX, [4, 0]),
+        ("a target", |c| c.asked.given.cells[2] = 4, [5, 2]),
+        ("a spare bit", |c| c.asked.given.marks[0] |= 16, [6, 0]),
+        ("a mask bit", |c| c.asked.mask = 3, [16, 0]),
+        ("21 scratch cells", |c| c.scratch = 21, [7, 0]),
+        ("no scratch", |c| c.scratch = 0, [7, 0]),
+        ("no rows, and row 4", |c| (c.asked.given.rows, c.asked.row) = (0, 4), [1, 0]),
+        ("a cell more, and row 4", |c| (c.asked.given.cells.push(0), c.asked.row = 4).1, [3, 0]),
+        ("row 4 and a target", |c| (c.asked.row, c.asked.given.cells[0]) = (4, 9), [4, 0]),
+        ("row 4 and a spare bit", |c| (c.asked.row, c.asked.given.marks[0]) = (4, 255), [4, 0]),
+        ("row 4 and a mask bit", |c| (c.asked.row, c.asked.mask) = (4, 2), [4, 0]),
+        ("row 4 and no scratch", |c| (c.asked.row, c.scratch) = (4, 0), [4, 0]),
+        ("row 4 and no room for a run", |c| (c.asked.row, c.run) = (4, 0), [4, 0]),
+        ("a mask bit and no scratch", |c| (c.asked.mask, c.scratch) = (2, 0), [16, 0]),
+        ("21 scratch cells and no room for the run", |c| (c.scratch, c.run) = (21, 0), [7, 0]),
+    ];
+    for (what, change, [number, place]) in lines {
+        let mut call = asking(&c(), 1, Some(2), 0, 1);
+        change(&mut call);
+        leaves(what, &call, &call.refused(number, place));
+    }
+    // 18: the first 22 of 25 scratch cells are 0, and no more. The others are as they were.
+    let call = asking(&c(), 1, Some(2), 0, 0);
+    for left in [call.by(&Product), call.by(&given_up::Own::default())] {
+        assert_eq!(left.answer, [18, 0, 0, 0]);
+        assert_eq!(left.scratch[..22], [0; 22]);
+        assert_eq!(left.scratch[22..], Fill::Pattern.cells(25)[22..]);
+    }
+    // 22 scratch cells are enough, and rows without a run need no buffer for it.
+    for (row, run, answer) in [(0, 1, [0, 2, 1, 0]), (1, 0, [0, 1, 0, 0]), (3, 0, [0; 4])] {
+        let mut call = asking(&c(), 1, Some(2), row, run);
+        call.scratch = 22;
+        assert_eq!(call.by(&Product).answer, answer, "{call}");
+        assert_eq!(call.by(&given_up::Own::default()).answer, answer, "{call}");
+    }
+    println!("product: {} calls with faults, of what is given up", lines.len() + 1);
 }
 
 /// "bit e for event e": of 32 events one leads from row 0, which is ready, to row 1;

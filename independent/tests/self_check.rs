@@ -7,51 +7,23 @@ use independent::damage::{same, Inputs};
 use independent::direct::offset_of;
 use independent::judge::{all_offsets, depths_by_lengths, fits, judge, read_listing};
 use independent::large::{self, KINDS};
+use independent::last_run::chosen;
 use independent::levels::Levels;
 use independent::mistaken::{Mistaken, FAULTS, RIGHT};
 use independent::parallel::{spread, Counter};
 use independent::random::Random;
 use independent::rules::{assemble, listing, text_for, Fate, Length, Study};
+use independent::runs::{
+    all_chosen, all_runs, along, distance_by, lengths, longest_needed, pairs, Chosen, Followed,
+};
 use independent::shapes::{table, with_mask, Shape, SHAPES};
 use independent::small::{all_masks, all_reached_tables, all_tables, reached_tables};
 use independent::table::{
     counted, every_event, read_image, read_input, read_sheet_input, Mask, Offset, Table,
 };
+use std::cmp::Reverse;
 use std::collections::HashSet;
-
-/// All runs of up to `longest` events, shorter ones first. The first is empty;
-/// each other one is the number of the run that it makes longer, and the event.
-fn all_runs(events: usize, longest: usize) -> Vec<(usize, usize)> {
-    let mut runs = vec![(0, 0)];
-    let mut from = 0;
-    for _ in 0..longest {
-        let to = runs.len();
-        for shorter in from..to {
-            runs.extend((0..events).map(|event| (shorter, event)));
-        }
-        from = to;
-    }
-    runs
-}
-
-/// What each run makes of the value of the empty run, event by event.
-fn along<T: Clone>(runs: &[(usize, usize)], empty: T, onward: impl Fn(&T, usize) -> T) -> Vec<T> {
-    let mut list = vec![empty];
-    for &(shorter, event) in &runs[1..] {
-        list.push(onward(&list[shorter], event));
-    }
-    list
-}
-
-/// A distance from the lengths of runs after which two rows differ: the greatest
-/// one, which means endless from `endless` on.
-fn distance_by(longest: Option<usize>, endless: usize) -> Length {
-    match longest {
-        None => Length::Of(0),
-        Some(length) if length >= endless => Length::Endless,
-        Some(length) => Length::Of(length + 1),
-    }
-}
+use std::sync::atomic::{AtomicUsize, Ordering};
 
 /// Depth and distance against their definitions, run by run, under all masks.
 ///
@@ -67,11 +39,10 @@ fn distance_by(longest: Option<usize>, endless: usize) -> Length {
 fn depth_and_distance_run_by_run() {
     let tried = Counter::default();
     for (rows, events) in [(1, 1), (1, 2), (2, 1), (2, 2), (3, 1), (3, 2), (4, 1)] {
-        let pairs = rows * (rows - 1) / 2;
+        let pairs = pairs(rows);
         let runs = all_runs(events, (rows * (rows + 1)).max(pairs * (pairs + 1)) - 1);
-        let all_lengths: Vec<Vec<usize>> = all_masks(events)
-            .map(|mask| along(&runs, 0, |length, event| length + counted(mask, event)))
-            .collect();
+        let all_lengths: Vec<Vec<usize>> =
+            all_masks(events).map(|mask| lengths(&runs, mask)).collect();
         tried.add(all_tables(rows, events, |table| {
             let ends: Vec<[usize; 4]> = along(&runs, [0, 1, 2, 3], |ends, event| {
                 ends.map(|row| if row < rows { table.target(row, event) } else { row })
@@ -449,6 +420,170 @@ fn levels_on_larger_tables() {
         }
     });
     println!("level by level: {} tables, {} with their offsets", tried.value(), at.value());
+}
+
+/// What the chosen runs are that were compared.
+#[derive(Default)]
+struct Runs {
+    tables: Counter,
+    pairs: Counter,
+    /// At a finite distance above 0, with a run that is not empty, with idle events in it.
+    apart: Counter,
+    with_run: Counter,
+    with_idle: Counter,
+    longest: AtomicUsize,
+}
+
+impl Runs {
+    /// Two rows' chosen run, found quickly, is the expected one; it is not longer than runs.rs
+    /// says.
+    fn check(&self, levels: &Levels, one: usize, other: usize, expected: &Chosen) {
+        let Levels { table, mask, .. } = levels;
+        assert_eq!(chosen(levels, one, other), *expected, "{table:?} {mask:b} {one} {other}");
+        let Chosen { distance, run } = expected;
+        assert!(run.is_empty() || run.len() + 2 <= table.rows, "{table:?} {mask:b} {one} {other}");
+        let idle = |&event: &u8| counted(*mask, event as usize) == 0;
+        self.pairs.add(1);
+        self.apart.add(finite(*distance) as usize);
+        self.with_run.add(!run.is_empty() as usize);
+        self.with_idle.add(run.iter().any(idle) as usize);
+        self.longest.fetch_max(run.len(), Ordering::Relaxed);
+    }
+
+    /// The same for every two rows.
+    fn check_all(&self, levels: &Levels, expected: impl Fn(usize, usize) -> Chosen) {
+        for one in 0..levels.table.rows {
+            for other in 0..levels.table.rows {
+                self.check(levels, one, other, &expected(one, other));
+            }
+        }
+        self.tables.add(1);
+    }
+
+    fn show(self, what: &str) {
+        let [tables, pairs, apart, with_run, with_idle] =
+            [self.tables, self.pairs, self.apart, self.with_run, self.with_idle]
+                .map(|counter| counter.value());
+        println!(
+            "chosen runs {what}: {tables} tables with a mask, {pairs} pairs of rows, {apart} at a \
+             finite distance above 0, {with_run} with a run that is not empty, {with_idle} with \
+             idle events in it, the longest of {} events",
+            self.longest.into_inner()
+        );
+        assert!(apart > pairs / 20 && with_run > apart / 10 && with_idle > with_run / 10);
+    }
+}
+
+/// By the definitions alone: all tables (the start does not matter) under all masks. Runs
+/// that are long enough where the distance is known show the same.
+#[test]
+fn chosen_runs_run_by_run() {
+    let sorts = Runs::default();
+    for (rows, events) in [(1, 1), (1, 2), (2, 1), (2, 2), (2, 3), (2, 4), (3, 1), (3, 2), (4, 1)] {
+        let [all, short] = longest_needed(rows).map(|longest| all_runs(events, longest));
+        spread(count_all(rows, events) / rows, |number| {
+            let table = table_number(rows, events, number * rows);
+            let followed = Followed::of(&table, &all);
+            for mask in all_masks(events) {
+                let lengths = lengths(&all, mask);
+                let by_short = all_chosen(&Study::of(&table, mask), &short);
+                sorts.check_all(&Levels::of(&table, mask), |one, other| {
+                    let expected = followed.chosen(&lengths, one, other);
+                    assert_eq!(by_short[one * rows + other], expected, "{table:?} {mask:b}");
+                    expected
+                });
+            }
+        });
+    }
+    sorts.show("run by run");
+}
+
+/// Tables of more rows and events, with the distances of rules.rs.
+#[test]
+fn chosen_runs_by_short_runs() {
+    let sorts = Runs::default();
+    // Rows, events, pieces (each piece is one table of each shape).
+    for (rows, events, pieces) in
+        [(4, 2, 400), (4, 3, 200), (4, 5, 20), (5, 1, 100), (5, 2, 200), (6, 1, 100), (6, 2, 12)]
+    {
+        let runs = all_runs(events, longest_needed(rows)[1]);
+        spread(pieces, |piece| {
+            let mut random = Random::new(4_900 + 10_000 * rows as u64 + piece as u64);
+            for shape in SHAPES {
+                let (given, mask) = with_mask(&mut random, shape, rows, events);
+                let expected = all_chosen(&Study::of(&given, mask), &runs);
+                sorts.check_all(&Levels::of(&given, mask), |one, other| {
+                    expected[one * rows + other].clone()
+                });
+            }
+        });
+    }
+    sorts.show("by short runs");
+}
+
+/// The chosen run as plainly as can be: runs breadth first, lower events first. Of those that
+/// come to one pair with as many counted events only the first is followed, as the others go
+/// on alike; no other is left out.
+fn plain_chosen(study: &Study, one: usize, other: usize) -> Chosen {
+    let Study { table, mask, .. } = study;
+    let distance = study.distance(one, other);
+    let Length::Of(wanted @ 1..) = distance else { return Chosen { distance, run: vec![] } };
+    let mut met = HashSet::from([(one, other, 0)]);
+    let mut open = vec![((one, other, 0), vec![])];
+    loop {
+        let mut next = Vec::new();
+        for ((one, other, length), run) in open {
+            if length == wanted - 1 && table.marks[one] != table.marks[other] {
+                return Chosen { distance, run };
+            }
+            for event in 0..table.events {
+                let [one, other] = [one, other].map(|row| table.target(row, event));
+                let point = (one, other, length + counted(*mask, event));
+                if point.2 < wanted && met.insert(point) {
+                    next.push((point, [&run[..], &[event as u8]].concat()));
+                }
+            }
+        }
+        open = next;
+    }
+}
+
+/// Larger tables of all shapes and kinds: any pairs, those with the greatest distances, and
+/// some of each finite distance.
+#[test]
+fn chosen_runs_of_larger_tables() {
+    let sorts = Runs::default();
+    let check = |random: &mut Random, given: &Table, mask: Mask| {
+        let (study, levels) = (Study::of(given, mask), Levels::of(given, mask));
+        let pairs = study.distance.len();
+        let mut list: Vec<usize> = (0..12).map(|_| random.below(pairs)).collect();
+        let mut apart: Vec<usize> = (0..pairs).filter(|&p| finite(study.distance[p])).collect();
+        apart.sort_by_key(|&pair| Reverse(study.distance[pair]));
+        list.extend(apart.iter().take(4));
+        list.extend(apart.iter().step_by(apart.len() / 40 + 1));
+        for pair in list {
+            let (one, other) = (pair / given.rows, pair % given.rows);
+            sorts.check(&levels, one, other, &plain_chosen(&study, one, other));
+        }
+        sorts.tables.add(1);
+    };
+    spread(60, |piece| {
+        let mut random = Random::new(4_950 + piece as u64);
+        for shape in SHAPES {
+            let (rows, events) = (random.between(5, 40), random.between(1, 4));
+            let (given, mask) = with_mask(&mut random, shape, rows, events);
+            check(&mut random, &given, mask);
+        }
+    });
+    spread(2 * KINDS.len(), |piece| {
+        let (kind, rows) = (KINDS[piece / 2], [17, 48][piece % 2]);
+        let mut random = Random::new(4_980 + piece as u64);
+        for mask in large::masks(&mut random, kind, 3) {
+            let given = large::table(&mut random, kind, rows, 3, mask);
+            check(&mut random, &given, mask);
+        }
+    });
+    sorts.show("of larger tables");
 }
 
 /// An image read back is the table; the document's own bytes for case A0.

@@ -16,7 +16,7 @@ use Rattle.chosen.specs.Choice.{SameAfter, IsChosen, headOf, firstSome, 
 use Rattle.chosen.proofs.Search.{Sought, seek-is, chosen-one}
 use Rattle.chosen.proofs.Steps.{given-up, chosen-flip, chosen-begins, chosen-exists}
 use Rattle.chosen.proofs.Bound.{chosen-short}
-use Rattle.chosen.proofs.Rounds.{Stage}
+use Rattle.chosen.specs.Rounds.{Stage}
 
 -- w is the chosen run of rows q and p at their distance.
 pub record Is (E : Events) (M : Machine) (q p : ℕ) (w : List ℕ) : Type 0 where

@@ -1,2 +1,3 @@
 pub mod FirstEvents
 pub mod Passes
+pub mod Rounds

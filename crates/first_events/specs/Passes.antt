@@ -64,7 +64,7 @@ pub record Visited (pass : Pass) (E : Events) (M : Machine) (q p : ℕ) (s t : L
 abbrev pub Before : Pass → Events → Machine → (ℕ → ℕ → ℕ) → Type 0
 Before Ends E M c = Unit {0}
 Before Takes E M c = Unit {0}
-Before Settles E M c = (q p a : ℕ) → q < M .rows → p < M .rows → c q p ≡ 1024 + a → a < 32 → measureIn (led E M c q p a) .first ≡ Unsettled → ⊥
+Before Settles E M c = (q p a : ℕ) → q < M .rows → p < M .rows → c q p ≡ 1024 + a → a < 32 → (a < E .count) × (measureIn (led E M c q p a) .first ≡ Unsettled → ⊥)
 
 -- A pass over s₀ has come to a cell: before it each pair has had its turn, and from there on nothing has changed.
 pub record Sweeping (pass : Pass) (E : Events) (M : Machine) (at : ℕ) (s₀ s : List ℕ) : Type 0 where
@@ -72,3 +72,9 @@ pub record Sweeping (pass : Pass) (E : Events) (M : Machine) (at : ℕ) (s₀ s 
   pub left : (q p : ℕ) → q < M .rows → p < q → at ≤ triangle q + p → pairAt s q p ≡ pairAt s₀ q p
   pub size : length s ≡ length s₀
   pub rest : drop (triangle (M .rows)) s ≡ drop (triangle (M .rows)) s₀
+
+-- A pass goes on from one cell to another, from s to t; r says whether a cell changed.
+pub record Swept (pass : Pass) (E : Events) (M : Machine) (from to : ℕ) (s t : List ℕ) (r : Bool) : Type 0 where
+  pub goes : (s₀ : List ℕ) → Sound E M → triangle (M .rows) ≤ length s₀ → Before pass E M (pairAt s₀) → Sweeping pass E M from s₀ s → Sweeping pass E M to s₀ t
+  pub size : length t ≡ length s
+  pub kept : r ≡ false → t ≡ s

@@ -1,10 +1,7 @@
 // The distance of each pair of rows with the first event of its chosen run, or the run's end: from the distances, in rounds over the length of the run in all its events.
 ghost use mathlib.Core.Path.{_≡_};
-ghost use mathlib.Core.Bool.{true, false};
-ghost use mathlib.Core.List.{List};
-ghost use Prim.Native.Nat.{ℕ, _+_, _≤_, _<_};
+ghost use Prim.Native.Nat.{_+_, _≤_, _<_};
 ghost use lib.ListN.{length};
-ghost use Rattle.tables.specs.Table.{markOf};
 ghost use Rattle.rules.specs.Rules.{tableOf};
 ghost use Rattle.row_starts.specs.RowStarts.{rowStarts};
 ghost use Rattle.scratch.specs.Tests.{Tested};
@@ -13,7 +10,8 @@ ghost use Rattle.pairs.specs.Pairs.{triangle, pairAt, workable};
 ghost use Rattle.measures.specs.Measures.{settledAt};
 ghost use Rattle.distances.specs.Search.{eventsBy, machineBy};
 ghost use Rattle.first_events.specs.FirstEvents.{told};
-ghost use Rattle.first_events.specs.Passes.{Ready, Lowest, Ended, Taken, Settled, Turned, Visited, Before, Sweeping};
+ghost use Rattle.first_events.specs.Passes.{Ready, Lowest, Ended, Taken, Settled, Turned, Visited, Swept};
+ghost use Rattle.first_events.specs.Rounds.{Given, Distances, Reached, Rounded, Searched};
 use chosen::First;
 
 // The passes over all pairs.
@@ -89,7 +87,8 @@ fn ready(
     let far = led.distance;
     let first = led.first;
     if known(first) {
-        return rules::wide(far) + rules::wide(weights::weight(mask, event)) == rules::wide(distance);
+        return rules::wide(far) + rules::wide(weights::weight(mask, event))
+            == rules::wide(distance);
     }
     false
 }
@@ -153,7 +152,18 @@ fn taken(
     if 1024 <= cell {
         return cell;
     }
-    let event = first_ready(mask, rows, events, cells, marks, starts, scratch, cell, q, p);
+    let event = first_ready(
+        mask,
+        rows,
+        events,
+        cells,
+        marks,
+        starts,
+        scratch,
+        cell,
+        q,
+        p,
+    );
     if event < events {
         return 1024 + event;
     }
@@ -195,6 +205,54 @@ fn settled(
     mixed(distance as u16, event)
 }
 
+// What a pass makes of a pair's cell.
+fn turn(
+    pass: Pass,
+    mask: u32,
+    rows: u16,
+    events: u16,
+    cells: &[u16],
+    marks: &[u8],
+    starts: &[u32],
+    scratch: &[u16],
+    q: u16,
+    p: u16,
+    cell: u16,
+) -> u16
+    requires { ⌜ now starts ≡ rowStarts ⌝ }
+    requires { ⌜ cell ≡ pairAt (now scratch) q p ⌝ }
+    requires { ⌜ events ≤ 32 ⌝ }
+    ensures { λ r. ⌜ Turned pass (eventsBy mask events) (machineBy rows events (now (cells .entry)) (now (marks .entry))) (pairAt (now (scratch .entry))) q p r ⌝ }
+{
+    match pass {
+        Pass::Ends => ended(mask, rows, events, cells, marks, scratch, q, p, cell),
+        Pass::Takes => taken(
+            mask,
+            rows,
+            events,
+            cells,
+            marks,
+            starts,
+            scratch,
+            q,
+            p,
+            cell,
+        ),
+        Pass::Settles => settled(
+            mask,
+            rows,
+            events,
+            cells,
+            marks,
+            starts,
+            scratch,
+            q,
+            p,
+            cell,
+        ),
+    }
+}
+
 // One pair's turn in a pass; whether its cell changed.
 fn visit(
     pass: Pass,
@@ -214,11 +272,19 @@ fn visit(
 {
     let at = pairs::row_start(starts, q) + rules::wide(p);
     let cell = scratch::cell(scratch, at);
-    let next = match pass {
-        Pass::Ends => ended(mask, rows, events, cells, marks, scratch, q, p, cell),
-        Pass::Takes => taken(mask, rows, events, cells, marks, starts, scratch, q, p, cell),
-        Pass::Settles => settled(mask, rows, events, cells, marks, starts, scratch, q, p, cell),
-    };
+    let next = turn(
+        pass,
+        mask,
+        rows,
+        events,
+        cells,
+        marks,
+        starts,
+        scratch,
+        q,
+        p,
+        cell,
+    );
     if next == cell {
         return false;
     }
@@ -240,14 +306,23 @@ fn sweep_row(
 ) -> bool
     requires { ⌜ now starts ≡ rowStarts ⌝ }
     requires { ⌜ (q < rows) × (events ≤ 32) ⌝ }
-    ensures { λ r. ⌜ (let E = eventsBy mask events in let M = machineBy rows events (now (cells .entry)) (now (marks .entry)) in let s = now (scratch .entry) in let t = now (scratch .exit) in
-        ((s₀ : List ℕ) → triangle rows ≤ length s₀ → Before pass E M (pairAt s₀) → Sweeping pass E M (triangle q) s₀ s → Sweeping pass E M (triangle q + q) s₀ t)
-        × (r ≡ false → t ≡ s)) ⌝ }
+    ensures { λ r. ⌜ Swept pass (eventsBy mask events) (machineBy rows events (now (cells .entry)) (now (marks .entry))) (triangle q) (triangle q + q) (now (scratch .entry)) (now (scratch .exit)) r ⌝ }
 {
     let mut changed = false;
     let mut p = 0;
     while p < q {
-        let hit = visit(pass, mask, rows, events, cells, marks, starts, scratch, q, p);
+        let hit = visit(
+            pass,
+            mask,
+            rows,
+            events,
+            cells,
+            marks,
+            starts,
+            scratch,
+            q,
+            p,
+        );
         p += 1;
         if hit {
             changed = true;
@@ -267,9 +342,7 @@ fn sweep(
     scratch: &mut [u16],
 ) -> bool
     requires { ⌜ events ≤ 32 ⌝ }
-    ensures { λ r. ⌜ (let E = eventsBy mask events in let M = machineBy rows events (now (cells .entry)) (now (marks .entry)) in let s = now (scratch .entry) in let t = now (scratch .exit) in
-        (triangle rows ≤ length s → Before pass E M (pairAt s) → Sweeping pass E M (triangle rows) s t)
-        × (r ≡ false → t ≡ s)) ⌝ }
+    ensures { λ r. ⌜ Swept pass (eventsBy mask events) (machineBy rows events (now (cells .entry)) (now (marks .entry))) 0 (triangle rows) (now (scratch .entry)) (now (scratch .exit)) r ⌝ }
 {
     let starts = row_starts::table();
     let mut changed = false;
@@ -282,4 +355,69 @@ fn sweep(
         }
     }
     changed
+}
+
+// A round: unsettled pairs take an event, and then are settled. Whether one did.
+fn round(
+    mask: u32,
+    rows: u16,
+    events: u16,
+    cells: &[u16],
+    marks: &[u8],
+    scratch: &mut [u16],
+) -> bool
+    requires { ⌜ Given (eventsBy mask events) (machineBy rows events (now cells) (now marks)) (now scratch) ⌝ }
+    ensures { λ r. ⌜ Rounded (eventsBy mask events) (machineBy rows events (now (cells .entry)) (now (marks .entry))) (now (scratch .entry)) (now (scratch .exit)) r ⌝ }
+{
+    if sweep(Pass::Takes, mask, rows, events, cells, marks, scratch) {
+        sweep(Pass::Settles, mask, rows, events, cells, marks, scratch);
+        return true;
+    }
+    false
+}
+
+// Rounds over the length of runs, until one changes nothing: no run has more events than rows less two.
+fn rounds(mask: u32, rows: u16, events: u16, cells: &[u16], marks: &[u8], scratch: &mut [u16])
+    requires { ⌜ Given (eventsBy mask events) (machineBy rows events (now cells) (now marks)) (now scratch) ⌝ }
+    requires { ⌜ Reached (eventsBy mask events) (machineBy rows events (now cells) (now marks)) 0 (now scratch) ⌝ }
+    ensures { λ _. ⌜ Searched (eventsBy mask events) (machineBy rows events (now (cells .entry)) (now (marks .entry))) (now (scratch .entry)) (now (scratch .exit)) ⌝ }
+{
+    let mut length = 2;
+    while length < rows {
+        if !round(mask, rows, events, cells, marks, scratch) {
+            return;
+        }
+        length += 1;
+    }
+}
+
+// From the distances to the distances with first events.
+fn search(mask: u32, rows: u16, events: u16, cells: &[u16], marks: &[u8], scratch: &mut [u16])
+    requires { ⌜ Given (eventsBy mask events) (machineBy rows events (now cells) (now marks)) (now scratch) ⌝ }
+    requires { ⌜ Distances (eventsBy mask events) (machineBy rows events (now cells) (now marks)) (now scratch) ⌝ }
+    ensures { λ _. ⌜ Searched (eventsBy mask events) (machineBy rows events (now (cells .entry)) (now (marks .entry))) (now (scratch .entry)) (now (scratch .exit)) ⌝ }
+{
+    sweep(Pass::Ends, mask, rows, events, cells, marks, scratch);
+    rounds(mask, rows, events, cells, marks, scratch);
+}
+
+// Writes the distances of a table's rows, and how their chosen runs begin, into scratch; false, and scratch is as it was, if the table breaks a rule or scratch is too short.
+pub fn find_measures(
+    mask: u32,
+    rows: usize,
+    events: usize,
+    start: usize,
+    cells: &[u16],
+    marks: &[u8],
+    scratch: &mut [u16],
+) -> bool
+    ensures { λ r. ⌜ (let T = tableOf rows events start (now (cells .entry)) (now (marks .entry)) in let s = now (scratch .entry) in
+        (r ≡ workable T (length s))
+        × (now (scratch .exit) ≡ told mask T s)) ⌝ }
+{
+    if !distances::distances(mask, rows, events, start, cells, marks, scratch) {
+        return false;
+    }
+    search(mask, rows as u16, events as u16, cells, marks, scratch);
+    true
 }

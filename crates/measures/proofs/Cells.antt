@@ -19,12 +19,12 @@ use Rattle.measures.proofs.Codes.{Fits, cell-says}
 
 module _ {E : Events} {M : Machine} (s : Sound E M) (z : Light E) (few : M .rows ≤ 1024) (most : E .count ≤ 32) where
   -- A run begins with an event below 32 or is at its end.
-  run-fits : (q p d : ℕ) (w : List ℕ) → d < 1024 → IsChosen E M q p d w → Fits (len d) (headOf w)
+  pub run-fits : (q p d : ℕ) (w : List ℕ) → d < 1024 → IsChosen E M q p d w → Fits (len d) (headOf w)
   run-fits q p d [] h x = (omega (arith, x .tells .counted), h)
   run-fits q p d (a ∷ w) h x = (omega (arith, x .tells .counted), h, omega (arith, x .tells .run .0))
 
   -- A distance that is finite is below 1,024.
-  far-below : (q p d : ℕ) → distance E M q p ≡ len d → d < 1024
+  pub far-below : (q p d : ℕ) → distance E M q p ≡ len d → d < 1024
   far-below q p d e = let b = subst (Below (M .rows)) e (distance-below E M q p) in omega (arith, b)
 
   pub chosen-fits : (q p : ℕ) → q < M .rows → p < M .rows → Fits (distance E M q p) (headOr (chosen E M q p))
