@@ -10,7 +10,7 @@ use Rattle.tables.specs.Lists.{tabulate, filter, some, first, position, sift}
 use Rattle.tables.specs.Reduction.{similarBy, level, levels, order, similar, kept, fold, met, numbering, number, fateOf}
 use Rattle.tables.proofs.Cases.{When, at, always, Case, C, cases}
 use Rattle.chosen.specs.Choice.{firstSome, lookAt, chosenAt, chosen}
-use Rattle.chosen.specs.GivenUp.{Loss, givenUp}
+use Rattle.chosen.specs.GivenUp.{Loss, nothing, givenUp}
 
 -- ---- chosen runs
 
@@ -36,9 +36,6 @@ case-G = (refl, refl)
 
 abbrev loss : ℕ → List ℕ → Loss
 loss far run = record { far = far; run = run }
-
-abbrev nothing : Loss
-nothing = loss 0 []
 
 -- A case at an offset has the losses of its rows at it; one that speaks of all has those with none.
 abbrev pub offsetOf : When → Offset

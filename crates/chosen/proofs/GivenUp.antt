@@ -1,11 +1,12 @@
 -- A folded row has a finite distance to the row that it folds into, so what it gives up is that distance and the chosen run.
-use mathlib.Core.Path.{_≡_, refl, sym, ap, subst, _∙_}
-use mathlib.Core.Bool.{Bool, true, false}
+use mathlib.Core.Path.{_≡_, refl, sym, ap, ap₂, subst, _∙_}
+use mathlib.Core.Bool.{Bool, true, false, cond}
 use mathlib.Core.List.{[]}
 use mathlib.Core.Logic.{inl}
 use Prim.Native.Nat.{ℕ, _*_, _≤_, _<_}
 use native.Mathlib.Omega.{arith}
 use lib.Dec.{eqb}
+use borrow.Author.Tests.{eqb-true}
 use Rattle.automata.specs.Runs.{Events, Machine, Sound, Light, Near, Len, len, endless, IsDistance}
 use Rattle.tables.specs.Lengths.{distance, reached}
 use Rattle.tables.specs.Table.{Table, Offset, offset, none, Valid, machine, eventsOf}
@@ -15,9 +16,11 @@ use Rattle.tables.proofs.Lengths.{distance-is, reached-is}
 use Rattle.tables.proofs.Folds.{folding, kept-order}
 use Rattle.tables.proofs.NoOffset.{fold-none}
 use Rattle.tables.proofs.Reduced.{sound-of}
+use Rattle.tables.proofs.Symmetry.{distance-self}
+use Rattle.tables.proofs.Theorems.{kept-itself}
 use Rattle.chosen.specs.Choice.{IsChosen, chosen, runOr}
-use Rattle.chosen.specs.GivenUp.{farOf, givenBy, givenUp, IsLoss}
-use Rattle.chosen.proofs.Steps.{chosen-exists}
+use Rattle.chosen.specs.GivenUp.{Loss, farOf, lossOf, nothing, givenBy, givenUp, GivesUp, IsLoss, intoBy, intoOf}
+use Rattle.chosen.proofs.Steps.{given-up, chosen-exists}
 use Rattle.chosen.proofs.Theorems.{is-chosen-at, none-chosen}
 
 module _ {E : Events} {M : Machine} (s : Sound E M) (z : Light E) where
@@ -56,11 +59,27 @@ module _ {E : Events} {M : Machine} (s : Sound E M) (z : Light E) where
         is-empty = λ h. let c : D ≡ 0 = omega arith in ap runOr (none-chosen s z hq hp (inl (e ∙ ap len c)));
       }
 
+-- A loss is what is given up.
+pub loss-is : {E : Events} {M : Machine} {q p : ℕ} {g : Loss} → IsLoss E M q p g → GivesUp E M q p (g .far) (g .run)
+loss-is {E} {M} {q} {p} {g} x = record {
+  differ = λ h. x .is-chosen h .tells .differ;
+  agree = λ h. given-up (x .distant) (x .is-chosen h) .1;
+  counted = λ h. omega (arith, x .is-chosen h .tells .counted);
+  always = λ e v hv. x .distant .0 .same v hv (omega arith);
+}
+
 -- What is known of a row with a given fate.
 fate-folded : (b c : Bool) (i p r : ℕ) → fateBy b c i p ≡ foldedInto r → (b ≡ true) × (p ≡ r)
 fate-folded false c i p r e = let g : _≡_ {A = ℕ} 0 1 = cc in absurd (omega arith)
 fate-folded true true i p r e = let g : _≡_ {A = ℕ} 0 1 = cc in absurd (omega arith)
 fate-folded true false i p r e = (refl, cc)
+
+-- A row gives up nothing to itself.
+module _ {E : Events} {M : Machine} (s : Sound E M) (z : Light E) where
+  own-loss : (q : ℕ) → q < M .rows → givenBy E M q (foldedInto q) ≡ nothing
+  own-loss q hq =
+      let e = distance-self s z q hq in
+      ap₂ lossOf e (none-chosen s z hq hq (inl e))
 
 module _ (weight : ℕ → ℕ) (light : (a : ℕ) → weight a ≤ 1) (T : Table) (v : Valid T) where
   abbrev E : Events
@@ -81,10 +100,49 @@ module _ (weight : ℕ → ℕ) (light : (a : ℕ) → weight a ≤ 1) (T : Tabl
       subst (λ (y : Fate). IsLoss E M q p (givenBy E M q y)) (sym e) (gives-up s z q p (x .1 .0) hq (x .0) (x .1 .1))
 
   -- A kept or unreached one gives up nothing.
-  pub given-kept : (k : Offset) (q i : ℕ) → fateOf E M k q ≡ keptAs i → givenUp weight k T q ≡ record { far = 0; run = [] }
+  pub given-kept : (k : Offset) (q i : ℕ) → fateOf E M k q ≡ keptAs i → givenUp weight k T q ≡ nothing
   unfolding givenUp
   given-kept k q i e = ap (givenBy E M q) e
 
-  pub given-unreached : (k : Offset) (q : ℕ) → fateOf E M k q ≡ unreached → givenUp weight k T q ≡ record { far = 0; run = [] }
+  pub given-unreached : (k : Offset) (q : ℕ) → fateOf E M k q ≡ unreached → givenUp weight k T q ≡ nothing
   unfolding givenUp
   given-unreached k q e = ap (givenBy E M q) e
+
+  -- ---- the row into which it folds
+
+  into-cases : (b c : Bool) (i p q : ℕ) → (b ≡ true → c ≡ eqb p q) → intoBy q (fateBy b c i p) ≡ cond b p q
+  into-cases false c i p q e = refl
+  into-cases true true i p q e = sym (eqb-true p q (sym (e refl)))
+  into-cases true false i p q e = refl
+
+  -- A reached row folds into a kept one, perhaps itself; an unreached one stays.
+  pub into-is : (k : Offset) (q : ℕ) → q < T .rows → intoOf weight k T q ≡ cond (reached E M q) (fold E M k q) q
+  unfolding fateOf intoOf
+  into-is k q hq = into-cases (reached E M q) (holds (eqb q) (kept E M k)) (number (E .count) M (fold E M k) q) (fold E M k q) q (kept-itself weight light T v k q hq)
+
+  -- It is a row, at a finite distance.
+  pub into-near : (k : Offset) (q : ℕ) → q < T .rows → (intoOf weight k T q < T .rows) × ((D : ℕ) × (distance E M q (intoOf weight k T q) ≡ len D))
+  into-near k q hq =
+      let s = sound-of weight T T refl v in
+      let z : Light (eventsOf weight T) = record { at-most = light } in
+      subst (λ (p : ℕ). (p < T .rows) × ((D : ℕ) × (distance E M q p ≡ len D))) (sym (into-is k q hq)) (pick s z (reached E M q) refl)
+    where
+      pick : Sound E M → Light E → (b : Bool) → reached E M q ≡ b → let p = cond b (fold E M k q) q in (p < T .rows) × ((D : ℕ) × (distance E M q p ≡ len D))
+      pick s z true e = fold-finite s z k q hq e
+      pick s z false e = (hq, (0, distance-self s z q hq))
+
+  given-cases : Sound E M → Light E → (q : ℕ) → q < T .rows → (f : Fate) → givenBy E M q f ≡ givenBy E M q (foldedInto (intoBy q f))
+  given-cases s z q hq (foldedInto p) = refl
+  given-cases s z q hq (keptAs i) = sym (own-loss s z q hq)
+  given-cases s z q hq unreached = sym (own-loss s z q hq)
+
+  -- What a row gives up is its distance to that row, and their chosen run.
+  pub given-into : (k : Offset) (q : ℕ) → q < T .rows
+      → let p = intoOf weight k T q in (distance E M q p ≡ len (givenUp weight k T q .far)) × (givenUp weight k T q .run ≡ runOr (chosen E M q p))
+  unfolding givenUp intoOf
+  given-into k q hq =
+      let s = sound-of weight T T refl v in
+      let z : Light (eventsOf weight T) = record { at-most = light } in
+      let g = given-cases s z q hq (fateOf E M k q) in
+      let n = into-near k q hq .1 in
+      (n .1 ∙ ap len (sym (ap (λ (x : Loss). x .far) g ∙ ap farOf (n .1))), ap (λ (x : Loss). x .run) g)
