@@ -1,2 +1,1 @@
 pub mod FirstEvents
-pub mod Passes
