@@ -7,6 +7,8 @@ use native.Mathlib.Omega.{arith}
 use lib.Dec.{ltb}
 use borrow.Author.Tests.{lt-ltb, le-ltb, eq-eqb, ne-eqb}
 use Rattle.pairs.specs.Pairs.{pairAt, leadAt}
+use Rattle.measures.specs.declared.Measure.{Measure}
+use Rattle.measures.specs.Measures.{measureIn}
 use Rattle.apart.specs.Steps.{aheadAt, nearer, apartAt}
 
 -- Which of two rows comes first, by their leads.
@@ -28,14 +30,14 @@ module _ (n : ℕ) (s : List ℕ) (q p : ℕ) {a : Bool} (ha : a ≡ aheadAt n s
   pub nearer-not : a ≡ false → least ≡ nearer n s q p least
   nearer-not e = rw (← ha, e)
 
-  module _ (e : a ≡ true) {d : ℕ} (hd : d ≡ pairAt s q p) where
-    is-min : nearer n s q p least ≡ min least d
-    is-min = rw (← ha, e, ← hd)
+  module _ (e : a ≡ true) {m : Measure} (hm : m ≡ measureIn (pairAt s q p)) where
+    is-min : nearer n s q p least ≡ min least (m .distance)
+    is-min = rw (← ha, e, ← hm)
 
-    pub nearer-less : d < least → d ≡ nearer n s q p least
+    pub nearer-less : m .distance < least → m .distance ≡ nearer n s q p least
     nearer-less h = omega (arith, is-min)
 
-    pub nearer-more : least ≤ d → least ≡ nearer n s q p least
+    pub nearer-more : least ≤ m .distance → least ≡ nearer n s q p least
     nearer-more h = omega (arith, is-min)
 
 -- The least of the distances so far.

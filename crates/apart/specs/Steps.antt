@@ -4,6 +4,7 @@ use mathlib.Core.List.{List}
 use Prim.Native.Nat.{ℕ, zero, suc, min}
 use lib.Dec.{eqb, ltb}
 use Rattle.pairs.specs.Pairs.{pairAt, leadAt}
+use Rattle.measures.specs.Measures.{measureIn}
 
 -- Whether row p comes before row q in the order.
 unfoldable pub aheadAt : ℕ → List ℕ → ℕ → ℕ → Bool
@@ -11,7 +12,7 @@ aheadAt n s q p = ltb (leadAt s n q) (leadAt s n p) || (eqb (leadAt s n p) (lead
 
 -- The lesser of a number and the distance of q and p, if p comes before q.
 abbrev pub nearer : ℕ → List ℕ → ℕ → ℕ → ℕ → ℕ
-nearer n s q p least = cond (aheadAt n s q p) (min least (pairAt s q p)) least
+nearer n s q p least = cond (aheadAt n s q p) (min least (measureIn (pairAt s q p) .distance)) least
 
 -- The least distance of q from one of the first m rows that comes before it; 65,535 if there is none.
 unfoldable pub apartAt : ℕ → List ℕ → ℕ → ℕ → ℕ

@@ -33,7 +33,8 @@ fn nearer(starts: &[u32], scratch: &[u16], rows: u16, q: u16, p: u16, least: u16
     ensures { λ r. ⌜ r ≡ nearerOf rows (now (scratch .entry)) q p least ⌝ }
 {
     if ahead(scratch, rows, q, p) {
-        let distance = pairs::pair(starts, scratch, q, p);
+        let m = measures::between(starts, scratch, q, p);
+        let distance = m.distance;
         if distance < least {
             return distance;
         }

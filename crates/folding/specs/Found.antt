@@ -12,11 +12,12 @@ use Rattle.tables.specs.Table.{Offset}
 use Rattle.tables.specs.Reduction.{similarBy, order, kept, fold}
 use Rattle.pairs.specs.Pairs.{leadAt, queued, pairAt, queueAt, foldsAt, needed}
 use Rattle.scratch.specs.Order.{levelOf, levelsOf, orderOf}
+use Rattle.measures.specs.Measures.{measureIn}
 use Rattle.lengths.specs.Lengths.{Holds, lenOf, depthAt}
 
 -- Whether rows q and p are similar.
 unfoldable pub similarAt : Offset → ℕ → List ℕ → ℕ → ℕ → Bool
-similarAt k n s q p = similarBy k (lenOf (pairAt s q p)) (depthAt n s q) (depthAt n s p)
+similarAt k n s q p = similarBy k (lenOf (measureIn (pairAt s q p) .distance)) (depthAt n s q) (depthAt n s p)
 
 -- Those of some rows that have the lead L.
 unfoldable pub having : ℕ → List ℕ → ℕ → List ℕ → List ℕ

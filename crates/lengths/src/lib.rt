@@ -1,4 +1,4 @@
-// The distance of every pair of rows and the depth of every row, in the lent scratch.
+// The distance of every pair of rows, with how its chosen run begins, and the depth of every row, in the lent scratch.
 ghost use mathlib.Core.Path.{_≡_};
 ghost use lib.ListN.{length};
 ghost use Rattle.rules.specs.Rules.{tableOf};
@@ -22,7 +22,7 @@ pub fn find_lengths(
         (r ≡ workable T (length s))
         × (now (scratch .exit) ≡ lengthsIn mask T s)) ⌝ }
 {
-    if !distances::distances(mask, rows, events, start, cells, marks, scratch) {
+    if !first_events::find_measures(mask, rows, events, start, cells, marks, scratch) {
         return false;
     }
     depths::depths(mask, rows, events, start, cells, marks, scratch);
