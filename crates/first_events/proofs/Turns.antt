@@ -11,12 +11,12 @@ use lib.ListN.{length}
 use Rattle.automata.specs.Runs.{Events, Machine}
 use Rattle.row_starts.specs.RowStarts.{rowStarts}
 use Rattle.pairs.specs.Pairs.{startIn, pairFrom, pairAt}
-use Rattle.pairs.proofs.RowStarts.{pair-right}
 use Rattle.chosen.specs.declared.First.{First}
 use Rattle.chosen.specs.declared.First.the-variants.{Unsettled, End, Event}
 use Rattle.scratch.specs.Tests.{Tested}
 use Rattle.measures.specs.declared.Measure.{Measure}
 use Rattle.measures.specs.Measures.{settledAt, measureIn}
+use Rattle.measures.proofs.Cells.{measure-read}
 use Rattle.first_events.specs.Passes.{led, Ready, Lowest, Ended, Taken, Settled}
 
 -- Whether anything is known of a run.
@@ -38,7 +38,7 @@ known-event f a e = record { holds = λ g h. event-known a (sym e ∙ h); fails 
 -- What is read of the rows to which an event leads.
 pub led-right : (E : Events) (M : Machine) (s starts : List ℕ) (q p a : ℕ) {i j : ℕ} {m : Measure} → starts ≡ rowStarts → i ≡ M .target q a → j ≡ M .target p a
     → m ≡ measureIn (pairFrom (startIn starts) s i j) → m ≡ measureIn (led E M (pairAt s) q p a)
-led-right E M s starts q p a {i} {j} e hi hj h = h ∙ ap measureIn (pair-right starts s i j e refl ∙ ap₂ (pairAt s) hi hj)
+led-right E M s starts q p a {i} {j} e hi hj h = measure-read starts s i j e h ∙ ap measureIn (ap₂ (pairAt s) hi hj)
 
 module _ (E : Events) (M : Machine) (c : ℕ → ℕ → ℕ) (q p : ℕ) where
   -- ---- the first pass

@@ -13,10 +13,12 @@ use Rattle.tables.specs.Lengths.{lead}
 use Rattle.tables.specs.Reduction.{order, kept, fold, similar}
 use Rattle.tables.proofs.Lists.{tabulate-length, tabulate-at}
 use Rattle.tables.proofs.Over.{over-length, over-inside, over-before, over-behind, over-again, over-swap}
-use Rattle.pairs.specs.Pairs.{leadsAt, queueAt, foldsAt, leadAt, workable}
+use Rattle.pairs.specs.Pairs.{triangle, leadsAt, queueAt, foldsAt, pairAt, leadAt, workable}
+use Rattle.pairs.proofs.Pairs.{pair-lift}
 use Rattle.scratch.specs.Scratch.{lenCell, cleared}
 use Rattle.pairs.proofs.Works.{workable-shape}
 use Rattle.scratch.proofs.Order.{order-few, order-meaning}
+use Rattle.measures.specs.Measures.{measureIn, measureOf}
 use Rattle.lengths.specs.Lengths.{lengthsIn, Holds}
 use Rattle.lengths.proofs.Found.{lengths-size, lengths-not, lengths-beyond, lengths-hold}
 use Rattle.folding.specs.Folding.{foldCells, foldedIn}
@@ -122,6 +124,15 @@ module _ (mask : ℕ) (k : Offset) (T : Table) (s : List ℕ) where
         ∙ over-before (over lengths (queueAt n) zeros) (foldsAt n) (foldCells (weightBy mask) k T) inside (leadsAt n + q) 0 (omega arith)
         ∙ over-before lengths (queueAt n) zeros (omega (arith, zeros-length, lengths-room .enough)) (leadsAt n + q) 0 (omega arith)
         ∙ holds .leads-hold q h
+
+    pub folded-pair : (q p : ℕ) → q < n → p < n → measureIn (pairAt (foldedIn mask k T s) q p) ≡ measureOf E M q p
+    folded-pair q p hq hp =
+        ap measureIn (pair-lift (λ x y. x ≡ y) n (foldedIn mask k T s) lengths refl (λ i h.
+        ap (λ (l : List ℕ). getD l i 0) folded-is
+        ∙ over-before (over lengths (queueAt n) zeros) (foldsAt n) (foldCells (weightBy mask) k T) inside i 0 (omega arith)
+        ∙ over-before lengths (queueAt n) zeros (omega (arith, zeros-length, lengths-room .enough)) i 0 (omega arith))
+        q p hq hp)
+        ∙ holds .pairs-hold q p hq hp
 
     -- Beyond the regions nothing changes.
     pub folded-beyond : (i : ℕ) → foldsAt n + n ≤ i → getD (foldedIn mask k T s) i 0 ≡ getD s i 0

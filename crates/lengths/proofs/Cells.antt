@@ -1,5 +1,5 @@
 -- Lengths in cells.
-use mathlib.Core.Path.{_≡_, refl, sym, ap, _∙_}
+use mathlib.Core.Path.{_≡_, sym, ap, _∙_}
 use mathlib.Core.List.{List}
 use Prim.Native.Nat.{ℕ, _+_, _-_, _≤_}
 use native.Mathlib.Omega.{arith}
@@ -8,12 +8,8 @@ use lib.ListN.{getD}
 use Rattle.automata.specs.Runs.{Len, len, endless}
 use Rattle.tables.specs.Lengths.{oneLess}
 use Rattle.tables.proofs.Lengths.{Below}
-use Rattle.row_starts.specs.RowStarts.{rowStarts}
-use Rattle.pairs.specs.Pairs.{startIn, pairFrom, pairAt, leadsAt, leadAt}
-use Rattle.pairs.proofs.RowStarts.{pair-right}
+use Rattle.pairs.specs.Pairs.{leadsAt, leadAt}
 use Rattle.scratch.specs.Scratch.{lenCell}
-use Rattle.measures.specs.declared.Measure.{Measure}
-use Rattle.measures.specs.Measures.{measureIn}
 use Rattle.lengths.specs.Lengths.{lenOf}
 
 pub cell-endless : (x : ℕ) → x ≡ 65535 → lenOf x ≡ endless
@@ -34,7 +30,3 @@ less-finite x b h = cell-finite (x - 1) (λ e. h (omega arith)) ∙ ap oneLess (
 -- The lead of a row, read where the code has computed its place.
 pub lead-read : (s : List ℕ) (n q : ℕ) {t i x : ℕ} → t ≡ leadsAt n → i ≡ q → x ≡ getD s (t + i) 0 → x ≡ leadAt s n q
 lead-read s n q place row read = rw (← place, ← row) read
-
--- What is known of two rows, read by the stored row starts.
-pub measure-read : (starts s : List ℕ) (q p : ℕ) {m : Measure} → starts ≡ rowStarts → m ≡ measureIn (pairFrom (startIn starts) s q p) → m ≡ measureIn (pairAt s q p)
-measure-read starts s q p e read = read ∙ ap measureIn (pair-right starts s q p e refl)

@@ -14,8 +14,16 @@ use Rattle.chosen.specs.declared.First.the-variants.{Unsettled}
 use Rattle.chosen.specs.Choice.{IsChosen, headOf, chosen, headOr}
 use Rattle.chosen.proofs.Theorems.{Is, chosen-is, chosen-none, none-chosen, chosen-flipped}
 use Rattle.chosen.proofs.Start.{chosen-same}
+use Rattle.row_starts.specs.RowStarts.{rowStarts}
+use Rattle.pairs.specs.Pairs.{startIn, pairFrom, pairAt}
+use Rattle.pairs.proofs.RowStarts.{pair-right}
+use Rattle.measures.specs.declared.Measure.{Measure}
 use Rattle.measures.specs.Measures.{cellOf, measureIn, measureOf, cellFor}
 use Rattle.measures.proofs.Codes.{Fits, cell-says}
+
+-- What is known of two rows, read by the stored row starts.
+pub measure-read : (starts s : List ℕ) (q p : ℕ) {m : Measure} → starts ≡ rowStarts → m ≡ measureIn (pairFrom (startIn starts) s q p) → m ≡ measureIn (pairAt s q p)
+measure-read starts s q p e read = read ∙ ap measureIn (pair-right starts s q p e refl)
 
 module _ {E : Events} {M : Machine} (s : Sound E M) (z : Light E) (few : M .rows ≤ 1024) (most : E .count ≤ 32) where
   -- A run begins with an event below 32 or is at its end.

@@ -13,7 +13,7 @@ use Rattle.text.specs.Text.{joined, filled, Puts}
 
 module _ (out l : List ℕ) where
   -- There is room for all of it.
-  filled-in : length l ≤ length out → filled out l ≡ l ++ drop (length l) out
+  pub filled-in : length l ≤ length out → filled out l ≡ l ++ drop (length l) out
   unfolding filled
   filled-in h = rw (take-all (length out) l h)
 

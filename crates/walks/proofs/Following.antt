@@ -11,11 +11,11 @@ use Rattle.row_starts.specs.RowStarts.{rowStarts}
 use Rattle.chosen.specs.declared.First.{First}
 use Rattle.chosen.specs.declared.First.the-variants.{Unsettled, End, Event}
 use Rattle.pairs.specs.Pairs.{startIn, pairFrom, pairAt}
-use Rattle.pairs.proofs.RowStarts.{pair-right}
 use Rattle.scratch.proofs.Numbers.{lt-or-ge, eq-or-ne}
 use Rattle.measures.specs.declared.Measure.{Measure}
 use Rattle.measures.specs.Measures.{measureIn, beginIn}
 use Rattle.measures.proofs.Codes.{begin-end, begin-event, read-low, read-endless, read-settled}
+use Rattle.measures.proofs.Cells.{measure-read}
 use Rattle.text.specs.Text.{filled, Puts}
 use Rattle.text.proofs.Buffer.{puts-then, puts-none, puts-all, puts-as}
 use Rattle.walks.specs.Walks.{numberOf, nextAt, walked}
@@ -24,7 +24,7 @@ use Rattle.walks.specs.Walks.{numberOf, nextAt, walked}
 
 pub next-right : (s starts : List ℕ) (q p : ℕ) {m : Measure} {x : ℕ} → starts ≡ rowStarts → m ≡ measureIn (pairFrom (startIn starts) s q p) → x ≡ numberOf (m .first) → x ≡ nextAt s q p
 unfolding nextAt
-next-right s starts q p e h k = k ∙ ap (λ (m : Measure). numberOf (m .first)) (h ∙ ap measureIn (pair-right starts s q p e refl))
+next-right s starts q p e h k = k ∙ ap (λ (m : Measure). numberOf (m .first)) (measure-read starts s q p e h)
 
 number-most : (e : ℕ) → e < 33 → numberOf (beginIn e) ≤ 32
 number-most e h = elim (eq-or-ne e 32) [ inl k ↦ omega (arith, ap numberOf (begin-end e k)) | inr k ↦ omega (arith, ap numberOf (begin-event e k)) ]

@@ -1,4 +1,4 @@
-use Rattle.lengths.proofs.Cells.{measure-read}
+use Rattle.measures.proofs.Cells.{measure-read}
 use Rattle.apart.proofs.Rows.{nearer-not, nearer-less, nearer-more}
 use borrow.Author.Needs.{needs}
 use Rattle.apart.proofs.nearer.Statement.{statement}
