@@ -69,10 +69,10 @@ loss-is {E} {M} {q} {p} {g} x = record {
 }
 
 -- What is known of a row with a given fate.
-fate-folded : (b c : Bool) (i p r : ℕ) → fateBy b c i p ≡ foldedInto r → (b ≡ true) × (p ≡ r)
+fate-folded : (b c : Bool) (i p r : ℕ) → fateBy b c i p ≡ foldedInto r → (b ≡ true) × (p ≡ r) × (c ≡ false)
 fate-folded false c i p r e = let g : _≡_ {A = ℕ} 0 1 = cc in absurd (omega arith)
 fate-folded true true i p r e = let g : _≡_ {A = ℕ} 0 1 = cc in absurd (omega arith)
-fate-folded true false i p r e = (refl, cc)
+fate-folded true false i p r e = (refl, cc, refl)
 
 -- A row gives up nothing to itself.
 module _ {E : Events} {M : Machine} (s : Sound E M) (z : Light E) where
@@ -119,6 +119,13 @@ module _ (weight : ℕ → ℕ) (light : (a : ℕ) → weight a ≤ 1) (T : Tabl
   pub into-is : (k : Offset) (q : ℕ) → q < T .rows → intoOf weight k T q ≡ cond (reached E M q) (fold E M k q) q
   unfolding fateOf intoOf
   into-is k q hq = into-cases (reached E M q) (holds (eqb q) (kept E M k)) (number (E .count) M (fold E M k) q) (fold E M k q) q (kept-itself weight light T v k q hq)
+
+  -- A folded row folds into another.
+  pub folded-other : (k : Offset) (q p : ℕ) → q < T .rows → fateOf E M k q ≡ foldedInto p → eqb p q ≡ false
+  unfolding fateOf
+  folded-other k q p hq e =
+      let f = fate-folded (reached E M q) (holds (eqb q) (kept E M k)) (number (E .count) M (fold E M k) q) (fold E M k q) p e in
+      ap (λ (r : ℕ). eqb r q) (sym (f .1)) ∙ sym (kept-itself weight light T v k q hq (f .0)) ∙ f .2
 
   -- It is a row, at a finite distance.
   pub into-near : (k : Offset) (q : ℕ) → q < T .rows → (intoOf weight k T q < T .rows) × ((D : ℕ) × (distance E M q (intoOf weight k T q) ≡ len D))

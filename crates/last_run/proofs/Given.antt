@@ -44,7 +44,7 @@ module _ (mask : ℕ) (k : Offset) (T : Table) (s : List ℕ) (w : workable T (l
   abbrev t : List ℕ
   t = foldedIn mask k T s
 
-  into-told : intoAt (T .rows) t q ≡ intoOf (weightBy mask) k T q
+  pub into-told : intoAt (T .rows) t q ≡ intoOf (weightBy mask) k T q
   unfolding reached
   into-told =
       ap (λ (x : ℕ). cond (eqb x 0) q (getD t (foldsAt (T .rows) + q) 0)) (folded-lead mask k T s w q hq)

@@ -13,7 +13,8 @@ use Rattle.rules.specs.declared.Verdict.{Verdict}
 use Rattle.rules.specs.declared.Verdict.the-variants.{Fine, Refused}
 use Rattle.rules.proofs.Judged.{judged-append, refused-first}
 use Rattle.rules.proofs.Checks.{unbroken, passed}
-use Rattle.rules.proofs.First.{both-fine, fine-valid, more-fine}
+use Rattle.rules.proofs.First.{room-kept, both-fine, fine-valid, more-fine, valid-masked}
+use Rattle.rules.proofs.Shape.{fine-shape, valid-shape}
 use Rattle.scratch.specs.Scratch.{scratchCells, workableIn}
 use Rattle.scratch.proofs.Works.{valid-within}
 use Rattle.pairs.specs.Pairs.{needed, workable}
@@ -80,3 +81,9 @@ module _ (mask : ℕ) (T : Table) (row room : ℕ) (e : verdict mask T row room 
 
       fits : needed (T .rows) ≤ room
       fits = omega (arith, needed-value (T .rows), ltb-false room (scratchCells (T .rows)) (unbroken _ _ _ (passed more (more-fine T more others) 1)))
+
+-- For a valid table, one of its rows and ample scratch, the mask alone can break a rule.
+pub by-mask : (mask : ℕ) (T : Table) (row room : ℕ) → Valid T → row < T .rows → needed (T .rows) ≤ room → verdict mask T row room ≡ maskRule mask (T .events)
+by-mask mask T row room v h fits =
+    sym (then-all mask T row room refl refl (fine-shape winch T (valid-shape T v)) h refl)
+    ∙ valid-masked mask T v (roomRule (scratchCells (T .rows)) room ∷ []) (sym (rw (room-kept (scratchCells (T .rows)) room (omega (arith, needed-value (T .rows))))))

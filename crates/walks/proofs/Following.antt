@@ -58,6 +58,14 @@ pub walked-none : (cells : List ℕ) (events : ℕ) (s : List ℕ) (q p : ℕ) �
 unfolding walked
 walked-none cells events s q p = refl
 
+-- It has at most so many events.
+pub walked-most : (cells : List ℕ) (events : ℕ) (s : List ℕ) (n q p : ℕ) → length (walked cells events s n q p) ≤ n
+walked-most cells events s zero q p = omega (arith, ap (λ (l : List ℕ). length l) (walked-none cells events s q p))
+walked-most cells events s (suc n) q p = elim (eq-or-ne (nextAt s q p) 32) [
+  | inl e ↦ omega (arith, ap (λ (l : List ℕ). length l) (walked-end cells events s n q p e))
+  | inr e ↦ omega (arith, ap (λ (l : List ℕ). length l) (walked-on cells events s n q p (nextAt s q p) refl e), walked-most cells events s n (getD cells (q * events + nextAt s q p) 0) (getD cells (p * events + nextAt s q p) 0))
+]
+
 -- The front of the run of q and p is written, and i and j are where it leads; `left` events more may follow.
 pub record Following (cells : List ℕ) (events : ℕ) (s : List ℕ) (rows q p : ℕ) (run₀ run : List ℕ) (at i j left : ℕ) : Type 0 where
   pub front : List ℕ
