@@ -9,6 +9,7 @@ ghost use Rattle.image_text.specs.ImageText.{imageText, maskedText};
 ghost use Rattle.desk.specs.Printed.{reductionText, printed};
 ghost use Rattle.listing.specs.Listing.{blank as blankRecord};
 use image_sections::Read;
+use image_text::Loaded;
 use reduction::Answer;
 use rules::Offset;
 
@@ -75,24 +76,25 @@ fn write_reduction(
 fn write_image_text(offset: Offset, mask: u32, image: &[u8], out: &mut [u8]) -> usize
     ensures { λ r. ⌜ Puts (now (out .entry)) 0 (imageText (maskedText mask (reductionText (offsetOf offset) mask)) (now (image .entry))) (now (out .exit)) r ⌝ }
 {
-    let mut cells = [0u16; 4096];
-    let mut marks = [0u8; 16];
-    match image_reader::read_within(rules::winch(), 128, image, &mut cells, &mut marks) {
+    let Loaded {
+        read,
+        cells,
+        marks,
+        count,
+        bytes,
+    } = image_text::load(image);
+    match read {
         Read::Refused(number, place) => lines::put_refusal(out, 0, number, place),
-        Read::Table(rows, events, start) => {
-            let count = rows * events;
-            let bytes = marks::mark_bytes(rows);
-            write_reduction(
-                offset,
-                mask,
-                rows,
-                events,
-                start,
-                &cells[..count],
-                &marks[..bytes],
-                out,
-            )
-        }
+        Read::Table(rows, events, start) => write_reduction(
+            offset,
+            mask,
+            rows,
+            events,
+            start,
+            &cells[..count],
+            &marks[..bytes],
+            out,
+        ),
     }
 }
 

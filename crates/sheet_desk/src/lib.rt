@@ -8,6 +8,7 @@ ghost use Rattle.text.specs.Text.{filled, Puts};
 ghost use Rattle.image_text.specs.ImageText.{imageText, maskedText};
 ghost use Rattle.sheet_desk.specs.Printed.{sheetText, printed};
 use image_sections::Read;
+use image_text::Loaded;
 use offsets::Listed;
 
 // Writes the text of a valid table of at most 128 rows, or the refusal of its mask.
@@ -50,23 +51,24 @@ fn write_table_text(
 fn write_image_text(mask: u32, image: &[u8], out: &mut [u8]) -> usize
     ensures { λ r. ⌜ Puts (now (out .entry)) 0 (imageText (maskedText mask (sheetText mask)) (now (image .entry))) (now (out .exit)) r ⌝ }
 {
-    let mut cells = [0u16; 4096];
-    let mut marks = [0u8; 16];
-    match image_reader::read_within(rules::winch(), 128, image, &mut cells, &mut marks) {
+    let Loaded {
+        read,
+        cells,
+        marks,
+        count,
+        bytes,
+    } = image_text::load(image);
+    match read {
         Read::Refused(number, place) => lines::put_refusal(out, 0, number, place),
-        Read::Table(rows, events, start) => {
-            let count = rows * events;
-            let bytes = marks::mark_bytes(rows);
-            write_table_text(
-                mask,
-                rows,
-                events,
-                start,
-                &cells[..count],
-                &marks[..bytes],
-                out,
-            )
-        }
+        Read::Table(rows, events, start) => write_table_text(
+            mask,
+            rows,
+            events,
+            start,
+            &cells[..count],
+            &marks[..bytes],
+            out,
+        ),
     }
 }
 

@@ -1,41 +1,21 @@
-use native.Mathlib.Omega.{arith}
 use mathlib.Core.Path.{sym}
-use lib.Seq.{length-take-le}
 use Rattle.text.proofs.Buffer.{puts-as}
 use Rattle.image_text.specs.ImageText.{maskedText}
-use Rattle.image_text.proofs.Taken.{Taken, taken, refused-text, cells-fit, cells-part, marks-part, taken-valid, taken-text}
+use Rattle.image_text.proofs.Taken.{refused-text, cells-part, cells-length, marks-part, marks-length, taken-valid, taken-text}
 use Rattle.sheet_desk.specs.Printed.{sheetText}
 use borrow.Author.Needs.{needs}
 use Rattle.sheet_desk.proofs.write_image_text.Statement.{statement}
 use Rattle.sheet_desk.proofs.write_image_text.Tie as tie
 
--- What the reader left in the buffers.
-read : (c : tie.After-read-within) → Taken (c .before .before .before .before .before .before .args .image .now) (c .read-within .result) (c .read-within .last .1 .1 .1 .0) (c .read-within .last .1 .1 .1 .1 .0)
-read c = taken (λ i. omega (arith, c .before .before .before .before .before .shared-slice-known .given i)) (c .before .before .before .winch .ensures) (c .read-within .ensures)
-
-mul-count : tie.Need-mul-count
-mul-count c = record { fits = omega (arith, cells-fit (read (c .before .before .before .before .before)) (c .before .rows .given .1)) }
-
-array-share-prefix-cells : tie.Need-array-share-prefix-cells
-array-share-prefix-cells c = cells-part (read (c .before .before .before .before .before .before)) (c .before .before .rows .given .1)
-
-slice-aggregate-write-table-text : tie.Need-slice-aggregate-write-table-text
-slice-aggregate-write-table-text c = sym (length-take-le _ (c .before .before .before .before .before .before .before .read-within .last .1 .1 .1 .0) (cells-part (read (c .before .before .before .before .before .before .before)) (c .before .before .before .rows .given .1)))
-
-array-share-prefix-marks : tie.Need-array-share-prefix-marks
-array-share-prefix-marks c = marks-part (read (c .before .before .before .before .before .before .before)) (c .before .before .before .rows .given .1) (c .before .mark-bytes .ensures)
-
-slice-aggregate-write-table-text-2 : tie.Need-slice-aggregate-write-table-text-2
-slice-aggregate-write-table-text-2 c = sym (length-take-le _ (c .before .before .before .before .before .before .before .before .read-within .last .1 .1 .1 .1 .0) (marks-part (read (c .before .before .before .before .before .before .before .before)) (c .before .before .before .before .rows .given .1) (c .before .before .mark-bytes .ensures)))
-
-write-table-text-requires : tie.Need-write-table-text-requires
-write-table-text-requires c κs = taken-valid (read (c .before .before .before .before .before .before .before .before .before)) (c .before .before .before .before .before .rows .given .1) (c .before .before .before .mark-bytes .ensures)
-
 returns : tie.Need-returns
-returns c = puts-as (sym (refused-text (read (c .before .before .before .before .before .before .before .before .before)) (maskedText (c .before .before .before .before .before .before .before .before .before .before .before .before .before .before .before .args .mask) (sheetText (c .before .before .before .before .before .before .before .before .before .before .before .before .before .before .before .args .mask))) (c .before .before .before .before .before .number .given .1))) (c .before .before .put-refusal .ensures)
+returns c =
+    let mask = c .before .before .before .before .before .before .before .before .before .before .before .before .args .mask in
+    puts-as (sym (refused-text (c .before .before .before .before .before .before .before .before .before .load .ensures) (maskedText mask (sheetText mask)) (c .before .before .before .before .before .read .given .1))) (c .before .before .put-refusal .ensures)
 
 returns-2 : tie.Need-returns-2
-returns-2 c = puts-as (sym (taken-text (read (c .before .before .before .before .before .before .before .before .before .before .before .before)) (c .before .before .before .before .before .before .before .before .rows .given .1) (c .before .before .before .before .before .before .mark-bytes .ensures) (maskedText (c .before .before .before .before .before .before .before .before .before .before .before .before .before .before .before .before .before .before .args .mask) (sheetText (c .before .before .before .before .before .before .before .before .before .before .before .before .before .before .before .before .before .before .args .mask))))) (c .before .before .write-table-text .ensures)
+returns-2 c =
+    let mask = c .before .before .before .before .before .before .before .before .before .before .before .before .before .before .args .mask in
+    puts-as (sym (taken-text (c .before .before .before .before .before .before .before .before .before .before .before .load .ensures) (c .before .before .before .before .before .before .before .read2 .given .1) (maskedText mask (sheetText mask)))) (c .before .before .write-table-text .ensures)
 
 pub write-image-text-spec : {M : Type 1} → statement M
 write-image-text-spec =
@@ -43,18 +23,13 @@ write-image-text-spec =
     (tie.spec
     (λ c κs. search needs)
     (λ c. search needs)
-    (λ c. search needs)
     (λ c κs. search needs)
     (λ c. search needs)
-    (λ c κs. search needs)
-    (λ c. search needs)
-    mul-count
-    (λ c κs. search needs)
-    array-share-prefix-cells
-    slice-aggregate-write-table-text
-    array-share-prefix-marks
-    slice-aggregate-write-table-text-2
-    write-table-text-requires
+    (λ c. cells-part (c .before .before .before .before .before .load .ensures) (c .before .read2 .given .1))
+    (λ c. cells-length (c .before .before .before .before .before .before .load .ensures) (c .before .before .read2 .given .1))
+    (λ c. marks-part (c .before .before .before .before .before .before .load .ensures) (c .before .before .read2 .given .1))
+    (λ c. marks-length (c .before .before .before .before .before .before .before .load .ensures) (c .before .before .before .read2 .given .1))
+    (λ c κs. taken-valid (c .before .before .before .before .before .before .before .before .load .ensures) (c .before .before .before .before .read2 .given .1))
     (λ c. search needs)
     returns
     (λ c. search needs)
