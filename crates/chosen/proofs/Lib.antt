@@ -6,4 +6,5 @@ pub mod Rounds
 pub mod Theorems
 pub mod Start
 pub mod GivenUp
+pub mod Most
 pub mod Cases

@@ -15,12 +15,11 @@ use Rattle.records.specs.declared.Record.{Record}
 use Rattle.recording.specs.Recorded.{depthOf, fateOf, recordOf}
 use Rattle.weights.specs.Weights.{counted}
 use Rattle.weights.proofs.Counts.{counted-few}
-use Rattle.image_text.specs.ImageText.{maskAt, maskedText}
 use Rattle.image_text.proofs.Short.{Inside}
-use Rattle.image_text.proofs.Front.{input-short, masked-short}
+use Rattle.image_text.proofs.Offsets.{offset-most}
 use Rattle.listing.proofs.Short.{SmallDepth, SmallFate, listing-short}
 use Rattle.listing.specs.Listing.{blank}
-use Rattle.desk.specs.Printed.{offsetIn, reductionText, printed}
+use Rattle.desk.specs.Printed.{reductionText, printed}
 
 -- ---- a listing
 
@@ -62,11 +61,7 @@ module _ (k : Offset) (mask : ℕ) (T : Table) (inside : Inside T) where
 -- For every input, also one that is no list of bytes.
 pub short : (input : List ℕ) → length (printed input) < 65536
 unfolding printed
-short input =
-    let mask : ℕ = maskAt input 2 in
-    let f : Table → List ℕ = reductionText (offsetIn input) mask in
-    let room : 20 ≤ 65535 = omega arith in
-    omega (arith, input-short 6 (maskedText mask f) 65535 room (λ T inside. masked-short mask f 65535 room T (reduction-short (offsetIn input) mask T inside)) input)
+short input = omega (arith, offset-most reductionText input 65535 (omega arith) reduction-short)
 
 -- So a buffer of 65,536 bytes takes all of it: that is what `write_text` answers for one.
 pub whole : (input out : List ℕ) → length out ≡ 65536 → min (length (printed input)) (length out) ≡ length (printed input)

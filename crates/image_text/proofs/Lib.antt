@@ -3,3 +3,4 @@ pub mod Taken
 pub mod Long
 pub mod Short
 pub mod Front
+pub mod Offsets

@@ -43,3 +43,13 @@ textBy (Refused number place) t = refusalLine number place
 -- The text of a table, by f, where its mask keeps rule 16, which is judged "once the image is read".
 abbrev pub maskedText : ℕ → (Table → List ℕ) → Table → List ℕ
 maskedText mask f T = textBy (maskRule mask (T .events)) (f T)
+
+-- "A 16-bit offset, low byte first (65,535 is none)", in front.
+abbrev pub offsetIn : List ℕ → Offset
+offsetIn input = storedOffset (numberAt input 0)
+
+-- What `reduce` and `given_up` print: "`reduce` reads the mask as four bytes, low first, after the offset", so six bytes stand before the image; f gives the text of a table.
+unfoldable pub offsetText : (Offset → ℕ → Table → List ℕ) → List ℕ → List ℕ
+offsetText f input =
+    let mask = maskAt input 2 in
+    inputText 6 (maskedText mask (f (offsetIn input) mask)) input

@@ -1,1 +1,4 @@
 pub mod Losses
+pub mod Input
+pub mod Short
+pub mod Example

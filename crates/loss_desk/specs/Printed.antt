@@ -5,8 +5,7 @@ use Rattle.tables.specs.Table.{Table, Offset, machine, eventsOf, weightBy}
 use Rattle.tables.specs.Reduction.{Fate, keptAs, foldedInto, unreached, fateOf}
 use Rattle.chosen.specs.GivenUp.{Loss, givenUp}
 use Rattle.text.specs.Text.{joined}
-use Rattle.images.specs.Image.{numberAt}
-use Rattle.image_text.specs.ImageText.{storedOffset, maskAt, maskedText, inputText}
+use Rattle.image_text.specs.ImageText.{offsetText}
 use Rattle.loss_text.specs.LossText.{lossLine}
 
 -- The line of row q by its fate: only a folded row has one.
@@ -23,8 +22,6 @@ lineOf k mask T q = fateLine q (givenUp (weightBy mask) k T q) (fateOf (eventsOf
 unfoldable pub lossText : Offset → ℕ → Table → List ℕ
 lossText k mask T = joined (T .rows) (lineOf k mask T)
 
--- The input is that of `reduce`: the offset, the mask "as four bytes, low first, after the offset", and the image.
+-- What is printed for an input, which is that of `reduce`.
 unfoldable pub printed : List ℕ → List ℕ
-printed input =
-    let mask = maskAt input 2 in
-    inputText 6 (maskedText mask (lossText (storedOffset (numberAt input 0)) mask)) input
+printed input = offsetText lossText input

@@ -1,70 +1,50 @@
+use mathlib.Core.Path.{sym}
+use native.Mathlib.Omega.{arith}
+use lib.ListN.{replicate, length-replicate}
+use lib.Seq.{length-take-le}
+use Prim.Native.Nat.{ℕ}
+use Rattle.walks.proofs.Following.{walked-most}
+use Rattle.loss_desk.proofs.Losses.{line-none, line-loss, run-back}
 use borrow.Author.Needs.{needs}
 use Rattle.loss_desk.proofs.put_row.Statement.{statement}
 use Rattle.loss_desk.proofs.put_row.Tie as tie
-use Rattle.loss_desk.proofs.put_row.Reads as reads
-use Rattle.loss_desk.proofs.put_row.Lts as lts
-use Rattle.loss_text.proofs.put_loss.Reads as put-loss-reads
-use Rattle.losses.proofs.distance.Reads as distance-reads
-use Rattle.losses.proofs.into.Reads as into-reads
-use Rattle.rules.proofs.wide.Reads as wide-reads
-use Rattle.walks.proofs.walk.Reads as walk-reads
 
--- src/lib.rt:26:9
-into-requires : tie.Need-into-requires
-into-requires c κs = search needs
-
--- src/lib.rt:28:9
 returns : tie.Need-returns
-returns c = ?
+returns c =
+    let a = c .before .before .before .before .before .args in
+    line-none (a .rows) (a .events) (a .cells .now) (a .scratch .now) (a .row) (c .before .into .ensures) (a .out .now) (a .at) (c .if1 .taken)
 
--- src/lib.rt:31:71
-slice-aggregate-walk : tie.Need-slice-aggregate-walk
-slice-aggregate-walk c = search needs
-
--- src/lib.rt:31:9
-walk-requires : tie.Need-walk-requires
-walk-requires c κs = search needs
-
--- src/lib.rt:32:9
-distance-requires : tie.Need-distance-requires
-distance-requires c κs = search needs
-
--- src/lib.rt:33:45
-wide-requires : tie.Need-wide-requires
-wide-requires c κs = search needs
-
--- src/lib.rt:33:63
 array-share-prefix-run : tie.Need-array-share-prefix-run
-array-share-prefix-run c = ?
+array-share-prefix-run c =
+    let z = c .before .before .before .before .before .before .before .before .before .before .before in
+    let a = z .args in
+    let w = c .before .before .before .before .walk in
+    omega (arith, z .pre, w .ensures .0, walked-most (a .cells .now) (a .events) (a .scratch .now) (a .rows) (a .row) (c .before .before .before .before .before .before .before .into .result), w .kept .1 .1 .1 .1 .1 .1 .0, length-replicate {A = ℕ} 128 0)
 
--- src/lib.rt:33:63
 slice-aggregate-put-loss : tie.Need-slice-aggregate-put-loss
-slice-aggregate-put-loss c = ?
+slice-aggregate-put-loss c = sym (length-take-le _ (c .before .before .before .before .before .walk .last .1 .1 .1 .1 .1 .1 .0) (array-share-prefix-run (c .before)))
 
--- src/lib.rt:33:5
-put-loss-requires : tie.Need-put-loss-requires
-put-loss-requires c κs = search needs
-
--- src/lib.rt:14:1
-same-length : tie.Need-same-length
-same-length c = search needs
-
--- src/lib.rt:14:1
 returns-2 : tie.Need-returns-2
-returns-2 c = ?
+returns-2 c =
+    let z = c .before .before .before .before .before .before .before .before .before .before .before .before .before .before .before in
+    let a = z .args in
+    let w = c .before .before .before .before .before .before .before .before .walk in
+    let most = walked-most (a .cells .now) (a .events) (a .scratch .now) (a .rows) (a .row) (c .before .before .before .before .before .before .before .before .before .before .before .into .result) in
+    let run = run-back (replicate 128 0) (omega (arith, z .pre, most, length-replicate {A = ℕ} 128 0)) (w .ensures .0) (w .ensures .1) in
+    line-loss (a .rows) (a .events) (a .cells .now) (a .scratch .now) (a .row) (c .before .before .before .before .before .before .before .before .before .before .before .into .ensures) (a .out .now) (a .at) (c .before .before .before .before .before .before .before .before .before .before .if1 .left) run (c .before .before .before .before .before .before .distance .ensures) (c .before .before .before .before .wide .ensures) (c .before .before .put-loss .ensures)
 
 pub put-row-spec : {M : Type 1} → statement M
 put-row-spec =
     tie.close
     (tie.spec
-    into-requires
+    (λ c κs. search needs)
     returns
-    slice-aggregate-walk
-    walk-requires
-    distance-requires
-    wide-requires
+    (λ c. search needs)
+    (λ c κs. search needs)
+    (λ c κs. search needs)
+    (λ c κs. search needs)
     array-share-prefix-run
     slice-aggregate-put-loss
-    put-loss-requires
-    same-length
+    (λ c κs. search needs)
+    (λ c. search needs)
     returns-2)

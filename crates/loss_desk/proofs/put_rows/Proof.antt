@@ -1,42 +1,41 @@
+use Prim.Native.Nat.{ℕ, _-_, _≤_}
+use mathlib.Core.Path.{_≡_, refl, ap, _∙_}
+use native.Mathlib.Omega.{arith}
+use lib.ListN.{length}
+use Rattle.text.specs.Text.{joined, Puts}
+use Rattle.text.proofs.Buffer.{puts-first, puts-next, puts-as}
+use Rattle.loss_desk.specs.Lines.{lineAt}
 use Rattle.loss_desk.proofs.put_rows.Statement.{statement}
 use Rattle.loss_desk.proofs.put_rows.Tie as tie
-use Rattle.loss_desk.proofs.put_rows.Reads as reads
-use Rattle.loss_desk.proofs.put_rows.Lts as lts
-use Rattle.loss_desk.proofs.put_row.Reads as put-row-reads
 
 abbrev Inv-loop : tie.InvT-loop
-Inv-loop out₀ rows events cells scratch next₀ row₀ out next row = ?
+Inv-loop out₀ rows events cells scratch next₀ row₀ out next row =
+    (row ≤ rows) × Puts out₀ 0 (joined row (lineAt rows events cells scratch)) out next × (length out ≡ length out₀)
 
 abbrev μ-loop : tie.MeasureT-loop
-μ-loop out₀ rows events cells scratch next₀ row₀ out next row = ?
+μ-loop out₀ rows events cells scratch next₀ row₀ out next row = rows - row
 
--- src/lib.rt:43:5
 loop-holds : tie.Need-loop-holds Inv-loop μ-loop
-loop-holds c = ?
+loop-holds c =
+    let a = c .before .before .before .args in
+    (omega arith, puts-first (lineAt (a .rows) (a .events) (a .cells .now) (a .scratch .now)) (a .out .now) 0, refl)
 
--- src/lib.rt:44:9
 put-row-requires : tie.Need-put-row-requires Inv-loop μ-loop
-put-row-requires c κs = ?
+put-row-requires c κs = c .before .before .before .before .before .before .pre
 
--- src/lib.rt:45:9
-add-row : tie.Need-add-row Inv-loop μ-loop
-add-row c = ?
-
--- src/lib.rt:43:5
-loop-less : tie.Need-loop-less Inv-loop μ-loop
-loop-less c = ?
-
--- src/lib.rt:43:5
 loop-again : tie.Need-loop-again Inv-loop μ-loop
-loop-again c = ?
+loop-again c =
+    let a = c .before .before .before .before .before .before .before .before .before .args in
+    let l = c .before .before .before .before .before .loop in
+    let p = c .before .before .put-row in
+    (omega arith, puts-next (lineAt (a .rows) (a .events) (a .cells .now) (a .scratch .now)) (l .row) (l .inv .1) (p .ensures), p .kept .0 ∙ l .inv .2)
 
--- src/lib.rt:37:1
-same-length : tie.Need-same-length Inv-loop μ-loop
-same-length c = ?
-
--- src/lib.rt:37:1
 returns : tie.Need-returns Inv-loop μ-loop
-returns c = ?
+returns c =
+    let a = c .before .before .before .before .before .args in
+    let l = c .before .loop in
+    let e : a .rows ≡ l .row = omega arith in
+    puts-as (ap (λ (n : ℕ). joined n (lineAt (a .rows) (a .events) (a .cells .now) (a .scratch .now))) e) (l .inv .1)
 
 pub put-rows-spec : {M : Type 1} → statement M
 put-rows-spec =
@@ -46,8 +45,8 @@ put-rows-spec =
     μ-loop
     loop-holds
     put-row-requires
-    add-row
-    loop-less
+    (λ c. omega arith)
+    (λ c. omega arith)
     loop-again
-    same-length
+    (λ c. c .before .loop .inv .2)
     returns)
