@@ -9,7 +9,7 @@ ghost use Rattle.image_text.specs.ImageText.{imageText, maskedText};
 ghost use Rattle.desk.specs.Printed.{reductionText, printed};
 ghost use Rattle.listing.specs.Listing.{blank as blankRecord};
 use image_sections::Read;
-use reduction::Answer;
+use reduction_rules::Answer;
 use rules::Offset;
 
 // A record to be written over.
