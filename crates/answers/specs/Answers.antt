@@ -6,14 +6,14 @@ use lib.Dec.{ltb}
 use Rattle.tables.specs.Table.{Offset, offset, none}
 use Rattle.rules.specs.declared.Verdict.{Verdict}
 use Rattle.rules.specs.declared.Verdict.the-variants as check
-use Rattle.reduction.specs.declared.Answer.{Answer}
-use Rattle.reduction.specs.declared.Answer.the-variants as reduce
-use Rattle.image_writer.specs.declared.Written.{Written}
-use Rattle.image_writer.specs.declared.Written.the-variants as write
+use Rattle.reduction_rules.specs.declared.Answer.{Answer}
+use Rattle.reduction_rules.specs.declared.Answer.the-variants as reduce
+use Rattle.image_rules.specs.declared.Written.{Written}
+use Rattle.image_rules.specs.declared.Written.the-variants as write
 use Rattle.image_sections.specs.declared.Read.{Read}
 use Rattle.image_sections.specs.declared.Read.the-variants as read
-use Rattle.pack_reader.specs.declared.Unpacked.{Unpacked}
-use Rattle.pack_reader.specs.declared.Unpacked.the-variants as unpack
+use Rattle.packs.specs.declared.Unpacked.{Unpacked}
+use Rattle.packs.specs.declared.Unpacked.the-variants as unpack
 
 abbrev pub four : ℕ → ℕ → ℕ → ℕ → List ℕ
 four a b c d = a ∷ b ∷ c ∷ d ∷ []

@@ -2,10 +2,10 @@
 ghost use mathlib.Core.Path.{_≡_};
 ghost use Rattle.rules.specs.Rules.{offsetOf};
 ghost use Rattle.answers.specs.Answers.{four, ofWritten, ofRead, ofUnpacked, ofAnswer, ofVerdict, offsetIn};
+use image_rules::Written;
 use image_sections::Read;
-use image_writer::Written;
-use pack_reader::Unpacked;
-use reduction::Answer;
+use packs::Unpacked;
+use reduction_rules::Answer;
 use rules::Offset;
 use rules::Verdict;
 

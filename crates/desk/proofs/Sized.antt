@@ -16,15 +16,16 @@ use Rattle.rules.specs.declared.Verdict.{Verdict}
 use Rattle.rules.specs.declared.Verdict.the-variants.{Fine, Refused}
 use Rattle.pairs.proofs.Triangle.{needed-value, triangle-le, triangle-square}
 use Rattle.records.specs.declared.Record.{Record}
-use Rattle.reduction.specs.declared.Answer.{Answer}
-use Rattle.reduction.specs.declared.Answer.the-variants as answer
+use Rattle.reduction_rules.specs.declared.Answer.{Answer}
+use Rattle.reduction_rules.specs.declared.Answer.the-variants as answer
 use Rattle.weights.specs.Weights.{spareBit, counted}
 use Rattle.weights.proofs.Counts.{counted-all}
 use Rattle.rules.specs.Rules.{maskRule, leftBy}
 use Rattle.rules.proofs.Checks.{unbroken}
 use Rattle.scratch.specs.Scratch.{scratchCells}
 use Rattle.reduction_rules.specs.Checks.{verdict}
-use Rattle.reduction.specs.Reduce.{answerBy, Promise}
+use Rattle.reduction_rules.specs.Checks.{answerBy}
+use Rattle.reduction.specs.Reduce.{Promise}
 use Rattle.reduction_rules.proofs.Room.{by-mask as judged-by-mask}
 use Rattle.image_text.specs.ImageText.{textBy, maskedText}
 use Rattle.text.specs.Text.{joined, decimal, text}

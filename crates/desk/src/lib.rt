@@ -10,7 +10,7 @@ ghost use Rattle.desk.specs.Printed.{reductionText, printed};
 ghost use Rattle.listing.specs.Listing.{blank as blankRecord};
 use image_sections::Read;
 use image_text::Loaded;
-use reduction::Answer;
+use reduction_rules::Answer;
 use rules::Offset;
 
 // A record to be written over.

@@ -5,8 +5,9 @@ use Prim.Native.Nat.{ℕ}
 use Rattle.tables.specs.Table.{Table, Offset, weightBy}
 use Rattle.tables.specs.Reduction.{reduced}
 use Rattle.rules.specs.declared.Verdict.{Verdict}
-use Rattle.reduction.specs.declared.Answer.{Answer}
-use Rattle.reduction.specs.Reduce.{answerBy, Promise}
+use Rattle.reduction_rules.specs.declared.Answer.{Answer}
+use Rattle.reduction_rules.specs.Checks.{answerBy}
+use Rattle.reduction.specs.Reduce.{Promise}
 use Rattle.load.specs.Load.{Promise as PromiseOfLoad}
 
 -- The reducer's, with the offset as it was given.

@@ -1,4 +1,4 @@
-// What is judged of a table before its image is written, in either form.
+// What is judged of a table before its image is written, in either form; and what its writer answers.
 ghost use mathlib.Core.Path.{_≡_};
 ghost use Prim.Native.Nat.{_≤_, _<_};
 ghost use lib.ListN.{length};
@@ -7,6 +7,12 @@ ghost use Rattle.image_rules.specs.Checks.{firstFar, formChecks, imageCh
 use images::Form;
 use rules::Verdict;
 use steps::Step;
+
+// The length of the image that was written, or the number and place of the first rule broken.
+pub enum Written {
+    Length(usize),
+    Refused(usize, usize),
+}
 
 // The place of the first cell whose step is too far; the number of cells if none is.
 fn first_far(events: usize, cells: &[u16]) -> usize

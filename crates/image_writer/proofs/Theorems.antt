@@ -17,10 +17,10 @@ use Rattle.rules.proofs.Judged.{judged-append}
 use Rattle.images.specs.Image.{imageOf, imageLength, Fits}
 use Rattle.images.specs.declared.Form.{Form}
 use Rattle.images.proofs.Image.{image-length}
-use Rattle.image_rules.specs.Checks.{formChecks, imageChecks}
+use Rattle.image_rules.specs.Checks.{formChecks, imageChecks, writtenBy}
 use Rattle.image_rules.proofs.Judged.{image-fine}
-use Rattle.image_writer.specs.Write.{writeChecks, writtenBy, writtenAs, imageBy, imageInAs}
-use Rattle.image_writer.specs.declared.Written.the-variants as write
+use Rattle.image_writer.specs.Write.{writeChecks, writtenAs, imageBy, imageInAs}
+use Rattle.image_rules.specs.declared.Written.the-variants as write
 
 -- The writer's checks, one after the other.
 passes : (u v : Verdict) → andThen u (andThen v Fine) ≡ Fine → (u ≡ Fine) × (v ≡ Fine)

@@ -11,9 +11,9 @@ use Rattle.rules.specs.declared.Verdict.the-variants.{Fine, Refused}
 use Rattle.rules.proofs.Judged.{refused-first, fine-first}
 use Rattle.images.specs.Image.{imageLength}
 use Rattle.images.specs.declared.Form.{Form}
-use Rattle.image_rules.specs.Checks.{imageChecks}
-use Rattle.image_writer.specs.Write.{writeChecks, writtenBy, writtenAs, imageBy, imageInAs}
-use Rattle.image_writer.specs.declared.Written.{Written}
+use Rattle.image_rules.specs.Checks.{imageChecks, writtenBy}
+use Rattle.image_writer.specs.Write.{writeChecks, writtenAs, imageBy, imageInAs}
+use Rattle.image_rules.specs.declared.Written.{Written}
 
 module _ (F : Form) (T : Table) where
   module _ (room : ℕ) where

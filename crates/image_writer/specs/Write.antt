@@ -10,17 +10,12 @@ use Rattle.rules.specs.declared.Verdict.the-variants.{Fine, Refused}
 use Rattle.images.specs.Image.{imageOf, imageLength}
 use Rattle.images.specs.declared.Form.{Form}
 use Rattle.images.specs.declared.Form.the-variants.{Plain}
-use Rattle.image_rules.specs.Checks.{imageChecks}
-use Rattle.image_writer.specs.declared.Written.{Written}
-use Rattle.image_writer.specs.declared.Written.the-variants as write
+use Rattle.image_rules.specs.Checks.{imageChecks, writtenBy}
+use Rattle.image_rules.specs.declared.Written.{Written}
 
 -- What is judged of the table, and then 7.
 abbrev pub writeChecks : Form → Table → ℕ → List Verdict
 writeChecks F T room = imageChecks F T ++ (roomRule (imageLength F (T .rows) (T .events)) room ∷ [])
-
-abbrev pub writtenBy : Form → Verdict → Table → Written
-writtenBy F Fine T = write.Length (imageLength F (T .rows) (T .events))
-writtenBy F (Refused number place) T = write.Refused number place
 
 -- What the writer answers, with room for so many bytes.
 unfoldable pub writtenAs : Form → Table → ℕ → Written

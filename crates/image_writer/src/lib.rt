@@ -9,15 +9,10 @@ ghost use Rattle.tables.specs.Table.{markBytes};
 ghost use Rattle.images.specs.Image.{number, width, stepBytes, targetBytes, targets, tooFar, imageOf, imageLength, Fits};
 ghost use Rattle.images.specs.declared.Form.the-variants.{Radio};
 ghost use Rattle.image_writer.specs.Write.{writtenAs, imageInAs, written, imageIn};
+use image_rules::Written;
 use images::Form;
 use rules::Verdict;
 use steps::Step;
-
-// The length of the image that was written, or the number and place of the first rule broken.
-pub enum Written {
-    Length(usize),
-    Refused(usize, usize),
-}
 
 // Writes a number at a place, 16 bits, low byte first.
 fn put_number(out: &mut [u8], at: usize, n: usize)

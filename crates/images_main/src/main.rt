@@ -1,7 +1,7 @@
 // Document 01's small examples of refusals 1 to 7, by the image writer, and an image written and read back. What the reader refuses is
 // run by the independent cutter. Lines are put into one buffer, each function from a place on.
+use image_rules::Written;
 use image_sections::Read;
-use image_writer::Written;
 use lines::put_refusal;
 use printing::put_cells;
 use printing::put_line;

@@ -3,7 +3,7 @@
 use lines::put_refusal;
 use offsets::Listed;
 use printing::put_line;
-use reduction::Answer;
+use reduction_rules::Answer;
 use rules::Offset;
 
 // Every event counts.

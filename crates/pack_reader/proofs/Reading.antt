@@ -30,8 +30,8 @@ use Rattle.pack_images.specs.declared.Needs.the-variants as needs
 use Rattle.pack_images.proofs.Walk.{images-hold}
 use Rattle.pack_reader.specs.Read.{packRead, roomed, unpacked, answerOf, leftIn}
 use Rattle.pack_reader.specs.Walk.{partFrom}
-use Rattle.pack_reader.specs.declared.Unpacked.{Unpacked}
-use Rattle.pack_reader.specs.declared.Unpacked.the-variants as answer
+use Rattle.packs.specs.declared.Unpacked.{Unpacked}
+use Rattle.packs.specs.declared.Unpacked.the-variants as answer
 
 -- ---- parts of lent buffers
 

@@ -11,8 +11,8 @@ use Rattle.images.specs.Image.{numberAt}
 use Rattle.image_numbers.specs.Numbers.{cutRule}
 use Rattle.packs.specs.Pack.{listOf, cellsNeeded, marksNeeded, countRule}
 use Rattle.pack_images.specs.Images.{Found, tables, refused, foundBy, imagesRead}
-use Rattle.pack_reader.specs.declared.Unpacked.{Unpacked}
-use Rattle.pack_reader.specs.declared.Unpacked.the-variants as answer
+use Rattle.packs.specs.declared.Unpacked.{Unpacked}
+use Rattle.packs.specs.declared.Unpacked.the-variants as answer
 
 -- The count, cut short (8) or not from 1 to 16 (15), and then the images.
 unfoldable pub packRead : List ℕ → Found

@@ -17,12 +17,7 @@ ghost use Rattle.pack_reader.specs.Walk.{partFrom, Fitting};
 use image_sections::Read;
 use images::Form;
 use pack_images::Needs;
-
-// How many tables were read, or the number and place of the first rule broken.
-pub enum Unpacked {
-    Tables(usize),
-    Refused(usize, usize),
-}
+use packs::Unpacked;
 
 // Puts rows, events and start of a table into the list, from a place on.
 fn put_entry(list: &mut [u16], at: usize, rows: usize, events: usize, start: usize)

@@ -12,7 +12,7 @@ use Rattle.rules.specs.declared.Verdict.{Verdict}
 use Rattle.rules.specs.declared.Verdict.the-variants.{Fine, Refused}
 use Rattle.images.specs.Image.{imageLength}
 use Rattle.images.specs.declared.Form.the-variants.{Radio}
-use Rattle.image_writer.specs.declared.Written.the-variants as write
+use Rattle.image_rules.specs.declared.Written.the-variants as write
 use Rattle.packs.specs.Pack.{tablesIn, listOf, cellsOf, marksOf, total, pack, packLength, Every, Sendable}
 use Rattle.packs.proofs.Tables.{list-length, cells-length, marks-length, tables-back, list-back, cells-back, marks-back, tables-count}
 use Rattle.packs.proofs.Images.{sendable-laid, images-length}

@@ -13,9 +13,10 @@ use Rattle.rules.specs.declared.Verdict.the-variants.{Fine}
 use Rattle.images.specs.Image.{number, radioImage, imageLength}
 use Rattle.images.specs.declared.Form.the-variants.{Radio}
 use Rattle.images.proofs.Image.{image-length}
-use Rattle.image_writer.specs.Write.{writeChecks, writtenBy, writtenAs, imageBy, imageInAs}
-use Rattle.image_writer.specs.declared.Written.{Written}
-use Rattle.image_writer.specs.declared.Written.the-variants as write
+use Rattle.image_rules.specs.Checks.{writtenBy}
+use Rattle.image_writer.specs.Write.{writeChecks, writtenAs, imageBy, imageInAs}
+use Rattle.image_rules.specs.declared.Written.{Written}
+use Rattle.image_rules.specs.declared.Written.the-variants as write
 use Rattle.image_writer.proofs.Writing.{write-fine}
 use Rattle.packs.specs.Pack.{tablesIn, cellsNeeded, marksNeeded, pack, packLength, radioImages, Every, Sendable}
 use Rattle.packs.proofs.Threes.{total-next}

@@ -5,8 +5,8 @@ use lib.ListN.{length}
 use Rattle.rules.specs.Rules.{judged, leftBy}
 use Rattle.rules.specs.declared.Verdict.{Verdict}
 use Rattle.rules.specs.declared.Verdict.the-variants.{Fine, Refused}
-use Rattle.image_writer.specs.declared.Written.{Written}
-use Rattle.image_writer.specs.declared.Written.the-variants as write
+use Rattle.image_rules.specs.declared.Written.{Written}
+use Rattle.image_rules.specs.declared.Written.the-variants as write
 use Rattle.packs.specs.Pack.{tablesIn, pack, packLength}
 use Rattle.pack_rules.specs.Checks.{packChecks}
 

@@ -6,7 +6,7 @@ ghost use Rattle.tables.specs.Lists.{over};
 ghost use Rattle.images.specs.Image.{number};
 ghost use Rattle.packs.specs.Pack.{tablesIn, cellsNeeded, marksNeeded, packLength, radioImages, Every, Sendable};
 ghost use Rattle.pack_writer.specs.Write.{packed, packIn};
-use image_writer::Written;
+use image_rules::Written;
 use rules::Verdict;
 
 // Writes the count, which is at most 16: its high byte is 0.

@@ -9,9 +9,9 @@ use Rattle.rules.specs.Rules.{leftBy}
 use Rattle.rules.specs.declared.Verdict.{Verdict}
 use Rattle.scratch.specs.Scratch.{scratchCells, fewCells}
 use Rattle.records.specs.declared.Record.{Record}
-use Rattle.reduction.specs.declared.Answer.{Answer}
-use Rattle.reduction_rules.specs.Checks.{verdict}
-use Rattle.reduction.specs.Reduce.{answerBy, Promise}
+use Rattle.reduction_rules.specs.declared.Answer.{Answer}
+use Rattle.reduction_rules.specs.Checks.{verdict, answerBy}
+use Rattle.reduction.specs.Reduce.{Promise}
 use Rattle.reduction_rules.proofs.Room.{same-verdict}
 use Rattle.recording.specs.Recorded.{recordsBy}
 

@@ -9,7 +9,7 @@ ghost use Rattle.reduction_rules.specs.Checks.{verdict};
 ghost use Rattle.reduction.specs.Reduce.{Promise};
 ghost use Rattle.recording.specs.Recorded.{recordsBy};
 use records::Record;
-use reduction::Answer;
+use reduction_rules::Answer;
 use ways::Way;
 
 // Shortens a table on the scratch of either way, where a mask says which events count: the new one is written into the lent cells and mark bytes, a record of each given row into the lent records; the scratch is cleared.

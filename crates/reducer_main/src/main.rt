@@ -7,7 +7,7 @@ use records::Depth;
 use records::Fate;
 use records::Record;
 use reducer::Outcome;
-use reduction::Answer;
+use reduction_rules::Answer;
 use rules::Offset;
 use text::put_text;
 use ways::Way;

@@ -6,10 +6,9 @@ use native.Mathlib.Omega.{arith}
 use Rattle.tables.specs.Table.{Table, Valid, markBytes}
 use Rattle.weights.specs.Weights.{spareBit}
 use Rattle.rules.specs.declared.Verdict.{Verdict}
-use Rattle.reduction_rules.specs.Checks.{verdict}
+use Rattle.reduction_rules.specs.Checks.{verdict, answerBy}
 use Rattle.reduction_rules.proofs.Room.{accepts}
-use Rattle.reduction.specs.declared.Answer.the-variants as answer
-use Rattle.reduction.specs.Reduce.{answerBy}
+use Rattle.reduction_rules.specs.declared.Answer.the-variants as answer
 
 -- A mask of the events of a valid table, and buffers that have the named lengths or more.
 module _ (need : ℕ → ℕ) (mask : ℕ) (T : Table) (v : Valid T) (cells marks records scratch : ℕ) (c : T .rows * T .events ≤ cells) (m : markBytes (T .rows) ≤ marks) (r : T .rows ≤ records) (s : need (T .rows) ≤ scratch)

@@ -18,7 +18,7 @@ use Rattle.renumbering.proofs.Left.{all-room, room-told}
 use Rattle.ways.specs.Ways.{needOf}
 use Rattle.ways.specs.declared.Way.{Way}
 use Rattle.ways.proofs.Needs.{four-regions}
-use Rattle.reduction.specs.declared.Answer.the-variants as answer
+use Rattle.reduction_rules.specs.declared.Answer.the-variants as answer
 use Rattle.reduction.specs.declared.Done.{Done}
 use Rattle.reduction_rules.specs.Checks.{verdict}
 use Rattle.reduction.specs.Working.{workBy, Worked, Rewritten}

@@ -17,11 +17,11 @@ use Rattle.rules.specs.declared.Verdict.{Verdict}
 use Rattle.rules.specs.declared.Verdict.the-variants.{Fine, Refused}
 use Rattle.scratch.specs.Scratch.{cleared}
 use Rattle.scratch.proofs.Cells.{clear-front, clear-work}
-use Rattle.reduction.specs.declared.Answer.{Answer}
-use Rattle.reduction.specs.declared.Answer.the-variants as answer
+use Rattle.reduction_rules.specs.declared.Answer.{Answer}
+use Rattle.reduction_rules.specs.declared.Answer.the-variants as answer
 use Rattle.reduction.specs.declared.Done.{Done}
-use Rattle.reduction_rules.specs.Checks.{verdict}
-use Rattle.reduction.specs.Reduce.{answerBy, from, written, Promise}
+use Rattle.reduction_rules.specs.Checks.{verdict, answerBy}
+use Rattle.reduction.specs.Reduce.{from, written, Promise}
 use Rattle.reduction.specs.Working.{unlessRefused, workBy, Worked}
 use Rattle.reduction_rules.proofs.Room.{Roomy, fine-roomy}
 

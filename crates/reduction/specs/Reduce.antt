@@ -8,14 +8,9 @@ use Rattle.tables.specs.Table.{Table, Offset, offset, none, Valid, markBytes, m
 use Rattle.tables.specs.Reduction.{reduced}
 use Rattle.rules.specs.Rules.{tableOf, leftBy}
 use Rattle.rules.specs.declared.Verdict.{Verdict}
-use Rattle.rules.specs.declared.Verdict.the-variants.{Fine, Refused}
-use Rattle.reduction.specs.declared.Answer.{Answer}
-use Rattle.reduction.specs.declared.Answer.the-variants as answer
-
--- The answer: the new row count, or the refusal.
-abbrev pub answerBy : Verdict → ℕ → Answer
-answerBy Fine rows = answer.Reduced rows
-answerBy (Refused number place) rows = answer.Refused number place
+use Rattle.reduction_rules.specs.Checks.{answerBy}
+use Rattle.reduction_rules.specs.declared.Answer.{Answer}
+use Rattle.reduction_rules.specs.declared.Answer.the-variants as answer
 
 -- From which length on the reduced table agrees: the offset; with none, twice the given rows.
 abbrev pub from : Offset → Table → ℕ

@@ -11,10 +11,10 @@ use Rattle.tables.specs.Reduction.{fold, number, reduced}
 use Rattle.rules.specs.declared.Verdict.{Verdict}
 use Rattle.rules.specs.declared.Verdict.the-variants.{Fine, Refused}
 use Rattle.scratch.specs.Scratch.{lenCell, workableIn}
+use Rattle.reduction_rules.specs.Checks.{answerBy}
 use Rattle.either_way.specs.Folding.{FoldedBy}
 use Rattle.renumbering.specs.Renumber.{newRows, newCells, newMarks, NewScratch}
 use Rattle.reduction.specs.declared.Done.{Done}
-use Rattle.reduction.specs.Reduce.{answerBy}
 
 -- How many records there are to write, or scratch cells to clear: none on a refusal.
 abbrev pub unlessRefused : Verdict → ℕ → ℕ

@@ -10,13 +10,8 @@ ghost use Rattle.scratch.specs.Scratch.{cleared};
 ghost use Rattle.reduction_rules.specs.Checks.{verdict};
 ghost use Rattle.reduction.specs.Reduce.{Promise};
 ghost use Rattle.reduction.specs.Working.{workBy, Worked, Rewritten};
+use reduction_rules::Answer;
 use ways::Way;
-
-// The new row count, or the number and place of the first rule broken.
-pub enum Answer {
-    Reduced(usize),
-    Refused(usize, usize),
-}
 
 // The answer, of how many given rows there are records to write, and how many scratch cells were used: none on a refusal.
 pub struct Done {

@@ -1,9 +1,15 @@
-// What is judged of a table, a mask and the lent buffers before a table is reduced, on the scratch of either way.
+// What is judged of a table, a mask and the lent buffers before a table is reduced, on the scratch of either way; and the answer that it leads to.
 ghost use mathlib.Core.Path.{_≡_};
 ghost use Rattle.rules.specs.Rules.{tableOf, judged};
 ghost use Rattle.ways.specs.Ways.{needOf};
 ghost use Rattle.reduction_rules.specs.Checks.{roomChecks, verdict};
 use ways::Way;
+
+// The new row count, or the number and place of the first rule broken.
+pub enum Answer {
+    Reduced(usize),
+    Refused(usize, usize),
+}
 
 // Rule 7: the lent cells, mark bytes, records and scratch cells, for a table of so many rows and events.
 fn check_room(

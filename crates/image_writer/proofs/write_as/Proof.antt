@@ -3,7 +3,7 @@ use lib.ListN.{length}
 use Rattle.rules.specs.Rules.{tableOf}
 use Rattle.rules.specs.declared.Verdict.the-variants.{Fine, Refused}
 use Rattle.image_rules.proofs.Judged.{image-fine}
-use Rattle.image_writer.specs.declared.Written.the-variants.{Length}
+use Rattle.image_rules.specs.declared.Written.the-variants.{Length}
 use Rattle.image_writer.proofs.Writing.{write-refused, write-short, write-fine, writes}
 use native.Mathlib.Omega.{arith}
 use borrow.Author.Needs.{needs}

@@ -1,7 +1,7 @@
 use mathlib.Core.Path.{sym, ap, _∙_}
 use lib.ListN.{length}
 use Rattle.image_numbers.proofs.Numbers.{number-cut}
-use Rattle.pack_reader.specs.declared.Unpacked.the-variants.{Tables}
+use Rattle.packs.specs.declared.Unpacked.the-variants.{Tables}
 use Rattle.pack_reader.proofs.Reading.{pack-cut, count-outside, counted, needed-never, needed, unpacks-refused, short-list, short-cells, short-marks, unpacks-tables}
 use native.Mathlib.Omega.{arith}
 use borrow.Author.Needs.{needs}

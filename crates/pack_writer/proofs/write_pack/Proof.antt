@@ -1,7 +1,7 @@
 use mathlib.Core.Path.{refl, sym, ap, _∙_}
 use lib.ListN.{length}
 use Rattle.rules.specs.declared.Verdict.the-variants.{Fine}
-use Rattle.image_writer.specs.declared.Written.the-variants.{Length}
+use Rattle.image_rules.specs.declared.Written.the-variants.{Length}
 use Rattle.pack_rules.proofs.Judged.{fine-sendable}
 use Rattle.pack_rules.proofs.Accepted.{fine-accepted}
 use Rattle.pack_writer.proofs.Writing.{count-then, writes}

@@ -67,8 +67,8 @@ use Rattle.reducer.proofs.Again.{LentAgain, lends-again, comes-back}
 use Rattle.reducer.proofs.AgainShr.{LentShared, shares-again, shared-back}
 use Rattle.reducer.proofs.Together.{four, four-then, four-on, four-off, ten, ten-then, ten-on, ten-off}
 use Rattle.recording.proofs.Keeps.{keeps}
-use Rattle.reduction.proofs.Answer as An
-use Rattle.reduction.proofs.Answer.Laws as An′
+use Rattle.reduction_rules.proofs.Answer as An
+use Rattle.reduction_rules.proofs.Answer.Laws as An′
 use Rattle.reduction.proofs.Done as D
 use Rattle.reduction.proofs.Done.Laws as D′
 use Rattle.reduction.proofs.work as work

@@ -67,11 +67,11 @@ use Rattle.records.proofs.Record.Laws as T′
 use Rattle.reduction_rules.specs.Checks.{verdict}
 use Rattle.reduction.specs.Reduce.{Promise}
 use Rattle.recording.specs.Recorded.{recordsBy}
-use Rattle.reduction.specs.declared.Answer.{Answer}
+use Rattle.reduction_rules.specs.declared.Answer.{Answer}
 use Rattle.reducer.specs.declared.Outcome.{Outcome}
 use Rattle.reducer.proofs.Together.{four, four-then, four-on, four-off, ten, ten-then, ten-on, ten-off}
-use Rattle.reduction.proofs.Answer as An
-use Rattle.reduction.proofs.Answer.Laws as An′
+use Rattle.reduction_rules.proofs.Answer as An
+use Rattle.reduction_rules.proofs.Answer.Laws as An′
 use Rattle.reducer.proofs.Outcome as Oc
 use Rattle.reducer.proofs.Outcome.Laws as Oc′
 use Rattle.reducer.proofs.reduce as reduce
