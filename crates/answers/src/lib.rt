@@ -1,9 +1,10 @@
 // Answers as four numbers, and offsets as one, for programs in C or Rust.
 ghost use mathlib.Core.Path.{_≡_};
 ghost use Rattle.rules.specs.Rules.{offsetOf};
-ghost use Rattle.answers.specs.Answers.{four, ofWritten, ofRead, ofUnpacked, ofAnswer, ofVerdict, offsetIn};
+ghost use Rattle.answers.specs.Answers.{four, ofWritten, ofRead, ofUnpacked, ofAnswer, ofTold, ofVerdict, offsetIn};
 use image_rules::Written;
 use image_sections::Read;
+use last_run_rules::Told;
 use packs::Unpacked;
 use reduction_rules::Answer;
 use rules::Offset;
@@ -58,6 +59,15 @@ pub fn put_answer(answer: &mut [usize; 4], found: Answer)
     match found {
         Answer::Reduced(rows) => put_four(answer, 0, rows, 0, 0),
         Answer::Refused(number, place) => put_four(answer, number, place, 0, 0),
+    }
+}
+
+pub fn put_told(answer: &mut [usize; 4], told: Told)
+    ensures { λ r. ⌜ now (answer .exit) ≡ ofTold told ⌝ }
+{
+    match told {
+        Told::Run(far, length) => put_four(answer, 0, far, length, 0),
+        Told::Refused(number, place) => put_four(answer, number, place, 0, 0),
     }
 }
 

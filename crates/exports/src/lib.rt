@@ -17,10 +17,14 @@ ghost use Rattle.image_reader.specs.Read.{readAs, cellsAs, marksIn};
 ghost use Rattle.packs.specs.Pack.{listOf, cellsOf, marksOf};
 ghost use Rattle.pack_writer.specs.Write.{packed, packIn};
 ghost use Rattle.pack_reader.specs.Read.{unpacked, answerOf, leftIn};
-ghost use Rattle.answers.specs.Answers.{ofWritten, ofRead, ofUnpacked, ofAnswer, ofVerdict, offsetIn};
+ghost use Rattle.answers.specs.Answers.{ofWritten, ofRead, ofUnpacked, ofAnswer, ofTold, ofVerdict, offsetIn};
+ghost use Rattle.chosen.specs.GivenUp.{givenUp};
+ghost use Rattle.last_run_rules.specs.Checks.{verdict as verdictOfRow, answerBy as toldBy};
+ghost use Rattle.last_run.specs.LastRun.{lastOfAll, Promise as PromiseOfRun};
 ghost use Rattle.text.specs.Text.{filled};
 ghost use Rattle.desk.specs.Printed.{printed};
 ghost use Rattle.sheet_desk.specs.Printed.{printed as printedSheet};
+ghost use Rattle.loss_desk.specs.Printed.{printed as printedLosses};
 
 // Writes what `reduce` prints for its input, as `desk::write_text` does.
 #[no_mangle]
@@ -40,6 +44,16 @@ pub extern "C" fn gelfost_sheet_text(input: &[u8], out: &mut [u8]) -> usize
         × (r ≡ min (length t) (length room))) ⌝ }
 {
     sheet_desk::write_sheet_text(input, out)
+}
+
+// Writes what `given_up` prints for its input, as `loss_desk::write_loss_text` does.
+#[no_mangle]
+pub extern "C" fn gelfost_given_up_text(input: &[u8], out: &mut [u8]) -> usize
+    ensures { λ r. ⌜ (let t = printedLosses (now (input .entry)) in let room = now (out .entry) in
+        (now (out .exit) ≡ filled room t)
+        × (r ≡ min (length t) (length room))) ⌝ }
+{
+    loss_desk::write_loss_text(input, out)
 }
 
 // Writes the radio image of a table, as `image_writer::write_radio_image` does.
@@ -208,4 +222,41 @@ pub extern "C" fn gelfost_generate(
 {
     let verdict = load::generate(seed, rows, events, cells, marks);
     answers::put_verdict(answer, verdict);
+}
+
+// What a row gives up, as `last_run::last_run` tells it.
+#[no_mangle]
+pub extern "C" fn gelfost_last_run(
+    offset: u32,
+    mask: u32,
+    rows: usize,
+    events: usize,
+    start: usize,
+    cells: &[u16],
+    marks: &[u8],
+    row: usize,
+    run: &mut [u8],
+    scratch: &mut [u16],
+    answer: &mut [usize; 4],
+)
+    ensures { λ r. ⌜ (let T = tableOf rows events start (now (cells .entry)) (now (marks .entry)) in let k = offsetIn offset in
+        let bytes = now (run .entry) in let s = now (scratch .entry) in
+        let v = verdictOfRow mask T row (length s) in let g = givenUp (weightBy mask) k T row in let a = toldBy (lastOfAll v g (length bytes)) g in
+        (now (answer .exit) ≡ ofTold a)
+        × PromiseOfRun v g k mask T row bytes s a (now (run .exit)) (now (scratch .exit))) ⌝ }
+{
+    let k = answers::offset_of(offset);
+    let told = last_run::last_run(
+        k,
+        mask,
+        rows,
+        events,
+        start,
+        cells,
+        marks,
+        row,
+        run,
+        scratch,
+    );
+    answers::put_told(answer, told);
 }

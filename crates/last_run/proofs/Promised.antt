@@ -22,11 +22,11 @@ use Rattle.chosen.specs.GivenUp.{Loss, GivesUp, givenUp}
 use Rattle.chosen.proofs.GivenUp.{given-folded, loss-is}
 use Rattle.folding.specs.Folding.{foldedIn}
 use Rattle.folding.proofs.FoldedIn.{folded-size, folded-beyond}
-use Rattle.last_run_rules.specs.Checks.{verdict, runRule}
+use Rattle.last_run_rules.specs.Checks.{verdict, runRule, answerBy}
 use Rattle.last_run_rules.proofs.Order.{Ready, fine-ready}
-use Rattle.losses.specs.Losses.{lossAt, answerBy}
-use Rattle.losses.specs.declared.Told.{Told}
-use Rattle.losses.specs.declared.Told.the-variants as told
+use Rattle.losses.specs.Losses.{lossAt}
+use Rattle.last_run_rules.specs.declared.Told.{Told}
+use Rattle.last_run_rules.specs.declared.Told.the-variants as told
 use Rattle.last_run.specs.LastRun.{lastOfAll, Promise}
 use Rattle.last_run.proofs.Given.{loss-told}
 
@@ -46,9 +46,9 @@ module _ (k : Offset) (mask : ℕ) (T : Table) (row : ℕ) (run s : List ℕ) wh
   -- A rule of 1 to 7 is broken.
   pub refused : (number place : ℕ) → Refused number place ≡ v → Promise v g k mask T row run s (told.Refused number place) run s
   refused number place e = record {
-    answers = ap (λ (u : Verdict). answerBy (lastOfAll u g (length run)) g) e;
-    run-after = ap (λ (u : Verdict). leftBy (lastOfAll u g (length run)) run (g .run)) e;
-    scratch-after = ap (λ (u : Verdict). leftBy u s (replicate (scratchCells (T .rows)) 0)) e;
+    answers = rw (← e) refl;
+    run-after = rw (← e) refl;
+    scratch-after = rw (← e) refl;
     gives-up = λ far n p h f. no-run h;
   }
 

@@ -9,10 +9,9 @@ use Rattle.rules.specs.Rules.{andThen, leftBy}
 use Rattle.rules.specs.declared.Verdict.{Verdict}
 use Rattle.scratch.specs.Scratch.{scratchCells}
 use Rattle.chosen.specs.GivenUp.{Loss, GivesUp}
-use Rattle.last_run_rules.specs.Checks.{runRule}
-use Rattle.losses.specs.Losses.{answerBy}
-use Rattle.losses.specs.declared.Told.{Told}
-use Rattle.losses.specs.declared.Told.the-variants as told
+use Rattle.last_run_rules.specs.Checks.{runRule, answerBy}
+use Rattle.last_run_rules.specs.declared.Told.{Told}
+use Rattle.last_run_rules.specs.declared.Told.the-variants as told
 
 -- The verdict of all rules: v of those that are judged before the search, and then 18, where the run buffer has so many bytes.
 abbrev pub lastOfAll : Verdict → Loss → ℕ → Verdict

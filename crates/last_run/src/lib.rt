@@ -5,7 +5,7 @@ ghost use Rattle.chosen.specs.GivenUp.{givenUp};
 ghost use Rattle.rules.specs.Rules.{tableOf, offsetOf};
 ghost use Rattle.last_run_rules.specs.Checks.{verdict};
 ghost use Rattle.last_run.specs.LastRun.{Promise};
-use losses::Told;
+use last_run_rules::Told;
 use rules::Verdict;
 
 // A row's distance to the row that it folds into, and the length of their chosen run in all its events; the run is written, an event a byte.

@@ -1,10 +1,16 @@
-// What is judged of a table, a mask, a row and the lent scratch before the row's last run is told.
+// What is judged of a table, a mask, a row and the lent scratch before the row's last run is told, and what is answered.
 ghost use mathlib.Core.Path.{_≡_};
 ghost use mathlib.Core.List.{[], _∷_, _++_};
 ghost use Rattle.rules.specs.Rules.{tableOf, judged, winch, roomRule, maskedChecks};
 ghost use Rattle.scratch.specs.Scratch.{scratchCells};
 ghost use Rattle.last_run_rules.specs.Checks.{verdict};
 use rules::Verdict;
+
+// A distance and the length of a run in all its events, or the number and place of the first rule broken.
+pub enum Told {
+    Run(usize, usize),
+    Refused(usize, usize),
+}
 
 // Rule 7, of the scratch for a table of so many rows.
 fn check_scratch(rows: u16, room: usize) -> Verdict

@@ -15,10 +15,10 @@ use Rattle.chosen.specs.GivenUp.{Loss}
 use Rattle.text.specs.Text.{filled}
 use Rattle.text.proofs.Buffer.{filled-in}
 use Rattle.walks.specs.Walks.{walked}
-use Rattle.last_run_rules.specs.Checks.{runRule}
-use Rattle.losses.specs.Losses.{intoAt, lossTo, lossAt, answerBy}
-use Rattle.losses.specs.declared.Told.{Told}
-use Rattle.losses.specs.declared.Told.the-variants as told
+use Rattle.last_run_rules.specs.declared.Told.{Told}
+use Rattle.last_run_rules.specs.declared.Told.the-variants as told
+use Rattle.last_run_rules.specs.Checks.{runRule, answerBy}
+use Rattle.losses.specs.Losses.{intoAt, lossTo, lossAt}
 
 module _ (n : ℕ) (s : List ℕ) (q : ℕ) {lead : ℕ} (h : lead ≡ leadAt s n q) where
   pub into-self : lead ≡ 0 → q ≡ intoAt n s q

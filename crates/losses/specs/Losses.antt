@@ -3,15 +3,11 @@ use mathlib.Core.Bool.{cond}
 use mathlib.Core.List.{List}
 use Prim.Native.Nat.{ℕ, _+_}
 use lib.Dec.{eqb}
-use lib.ListN.{length, getD}
+use lib.ListN.{getD}
 use Rattle.chosen.specs.GivenUp.{Loss}
-use Rattle.rules.specs.declared.Verdict.{Verdict}
-use Rattle.rules.specs.declared.Verdict.the-variants.{Fine, Refused}
 use Rattle.pairs.specs.Pairs.{pairAt, leadAt, foldsAt}
 use Rattle.measures.specs.Measures.{measureIn}
 use Rattle.walks.specs.Walks.{walked}
-use Rattle.losses.specs.declared.Told.{Told}
-use Rattle.losses.specs.declared.Told.the-variants as told
 
 -- The row into which row q folds, in a scratch of n rows; q itself, if it is unreached.
 abbrev pub intoAt : ℕ → List ℕ → ℕ → ℕ
@@ -24,8 +20,3 @@ lossTo n events cells s q p = record { far = measureIn (pairAt s q p) .distance;
 -- What row q gives up.
 unfoldable pub lossAt : ℕ → ℕ → List ℕ → List ℕ → ℕ → Loss
 lossAt n events cells s q = lossTo n events cells s q (intoAt n s q)
-
--- The answer: the distance and the run's length in all its events, or the refusal.
-abbrev pub answerBy : Verdict → Loss → Told
-answerBy Fine g = told.Run (g .far) (length (g .run))
-answerBy (Refused number place) g = told.Refused number place

@@ -5,14 +5,9 @@ ghost use Rattle.rules.specs.Rules.{leftBy};
 ghost use Rattle.pairs.specs.Pairs.{pairAt};
 ghost use Rattle.measures.specs.Measures.{measureIn};
 ghost use Rattle.walks.specs.Walks.{walked};
-ghost use Rattle.last_run_rules.specs.Checks.{runRule};
-ghost use Rattle.losses.specs.Losses.{intoAt, lossAt, answerBy};
-
-// A distance and the length of a run in all its events, or the number and place of the first rule broken.
-pub enum Told {
-    Run(usize, usize),
-    Refused(usize, usize),
-}
+ghost use Rattle.last_run_rules.specs.Checks.{runRule, answerBy};
+ghost use Rattle.losses.specs.Losses.{intoAt, lossAt};
+use last_run_rules::Told;
 
 // The row into which a row folds; the row itself, if it is unreached.
 pub fn into(scratch: &[u16], rows: u16, row: u16) -> u16
