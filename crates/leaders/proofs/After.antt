@@ -6,8 +6,10 @@ use Prim.Native.Nat.{ℕ, _*_, _/_, _≤_, _<_}
 use native.Mathlib.Omega.{arith}
 use Rattle.scratch.proofs.Numbers.{eq-or-ne}
 use Rattle.splitting.specs.Places.{nxtAt, keyAt, tabAt}
-use Rattle.leaders.specs.Leaders.{rowAt, valueAt, stampAt, targetAt, classAt, Old, slotOf, Table, hashIn, Same, Known, Joins}
-use Rattle.leaders.proofs.Signatures.{to-same}
+use Rattle.signatures.specs.Signatures.{valueAt, stampAt, targetAt, classAt}
+use Rattle.leader_table.specs.Putting.{rowAt, Old, slotOf, Same, hashIn}
+use Rattle.leaders.specs.Leaders.{Table, Known, Joins}
+use Rattle.signatures.proofs.Keys.{to-same}
 
 -- A table whose leaders, keys and entries stand in t stands in w too, if the signatures are the same at the places that are settled there.
 table-same : (mask n m to fewer : ℕ) (cells s t b w : List ℕ) (settled settled′ : ℕ → Type 0) → fewer ≤ to

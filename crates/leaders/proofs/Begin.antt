@@ -8,7 +8,9 @@ use native.Mathlib.Decide.{decLt}
 use lib.ListN.{getD}
 use Rattle.scratch.proofs.Numbers.{eq-or-ne}
 use Rattle.splitting.specs.Places.{nxtAt, keyAt, jumpAt}
-use Rattle.leaders.specs.Leaders.{rowAt, valueAt, targetAt, Changed, Old, Settled, slotOf, Same, Sizes, InHand, Begun, Kept, Joins}
+use Rattle.signatures.specs.Signatures.{valueAt, targetAt, Changed}
+use Rattle.leader_table.specs.Putting.{rowAt, Old, Settled, slotOf, Same, Sizes}
+use Rattle.leaders.specs.Leaders.{InHand, Begun, Kept, Joins}
 use Rattle.leaders.specs.Steps.{JoiningIn, Seeded}
 use Rattle.leaders.proofs.Regions.{kept-front}
 use Rattle.leaders.proofs.After.{known-none}

@@ -8,7 +8,9 @@ use lib.ListN.{length, getD, set}
 use lib.Seq.{getD-set-same, getD-set-other, getD-take}
 use Rattle.splitting.proofs.Frames.{frame-none, frame-then, frame-back, frame-set}
 use Rattle.scratch.proofs.Numbers.{eq-or-ne}
-use Rattle.leaders.specs.Leaders.{rowAt, valueAt, Sizes, Kept}
+use Rattle.signatures.specs.Signatures.{valueAt}
+use Rattle.leader_table.specs.Putting.{rowAt, Sizes}
+use Rattle.leaders.specs.Leaders.{Kept}
 use Rattle.leaders.specs.Steps.{Seeded}
 
 pub kept-none : {n : ℕ} {s : List ℕ} → Kept n s s
@@ -57,7 +59,3 @@ seeded-next {n} {known} {c} {s} {t} x d past h room e =
       others = λ y l.
           getD-set-other t (4 * n + c) y x 0 (λ z. ⊎-elim (λ b. omega arith) (λ b. omega arith) l) ∙ d .others y (⊎-elim (λ b. inl b) (λ b. inr (omega arith)) l);
     }
-
--- One cell more.
-pub between-more : {P : ℕ → Type 0} (from at : ℕ) → ((x : ℕ) → from ≤ x → x < at → P x) → P at → (x : ℕ) → from ≤ x → x < at + 1 → P x
-between-more {P} from at h p x l g = ⊎-elim (λ e. subst P (sym e) p) (λ ne. h x l (omega arith)) (eq-or-ne x at)

@@ -5,7 +5,8 @@ use Prim.Native.Nat.{ℕ, suc, _+_, _≤_, _<_}
 use native.Mathlib.Omega.{arith}
 use native.Mathlib.Decide.{decLt}
 use Rattle.scratch.proofs.Numbers.{eq-or-ne}
-use Rattle.leaders.specs.Leaders.{Settled, Entry, Table}
+use Rattle.leader_table.specs.Putting.{Settled}
+use Rattle.leaders.specs.Leaders.{Entry, Table}
 use Rattle.leaders.specs.Steps.{Joining}
 
 -- One place more is settled.

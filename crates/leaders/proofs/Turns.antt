@@ -9,10 +9,12 @@ use lib.ListN.{length, getD, set, length-set}
 use lib.Seq.{getD-set-same, getD-set-other}
 use Rattle.scratch.proofs.Numbers.{eq-or-ne}
 use Rattle.splitting.specs.Places.{nxtAt, keyAt, jumpAt, tabAt}
-use Rattle.leaders.specs.Leaders.{rowAt, Old, Settled, slotOf, hashIn, Same, Sizes, InHand, Kept}
-use Rattle.leaders.specs.Steps.{Alike, Found, Put, full, entered, follows, leads, Stepped, rests, passed, noted, JoiningIn}
+use Rattle.leader_table.specs.Putting.{rowAt, Old, Settled, slotOf, Same, Sizes, Alike, Found, hashIn, Put, full, entered, follows, leads}
+use Rattle.leaders.specs.Leaders.{InHand, Kept}
+use Rattle.leaders.specs.Steps.{Stepped, rests, passed, noted, JoiningIn}
 use Rattle.leaders.proofs.Regions.{kept-none, kept-then, kept-set}
-use Rattle.leaders.proofs.Signatures.{signed-back, signed-trans, key-same, same-same, hash-same, settled-to, settled-from, same-from}
+use Rattle.signatures.proofs.Keys.{signed-back, signed-trans, key-same}
+use Rattle.leaders.proofs.Signatures.{same-same, hash-same, settled-to, settled-from, same-from}
 use Rattle.leaders.proofs.Table.{turn-rests, turn-enters, turn-follows, turn-leads, joining-same}
 
 module _ (mask n m u to known last : ℕ) (cells : List ℕ) (i : ℕ) {b s : List ℕ} (sizes : Sizes n m to known b) (fit : u ≤ to) (hand : InHand n m to cells b) (hi : i < to) (kept : Kept n b s) where

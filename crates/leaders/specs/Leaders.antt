@@ -1,71 +1,15 @@
--- The table of leaders: which rows have one signature, which places are in the table, and what is left when leaders of one signature have been joined.
+-- The table of leaders: which places are in the table, and what is left when leaders of one signature have been joined.
 -- A stored table has m events a row; the lent scratch has regions of n cells: by row its class of the level before (its value, the place of its leader),
 -- by place the rows at hand, their leaders and keys, and by row the level at which its class changed last.
 use mathlib.Core.Path.{_≡_}
-use mathlib.Core.Bool.{cond}
 use mathlib.Core.List.{List}
-use mathlib.Core.Logic.{_⊎_}
-use Prim.Native.Nat.{ℕ, zero, suc, _+_, _*_, _/_, _%_, _≤_, _<_}
-use lib.Dec.{eqb}
-use lib.ListN.{length, getD}
-use Rattle.tables.specs.Table.{weightBy}
+use Prim.Native.Nat.{ℕ, suc, _*_, _≤_, _<_}
+use lib.ListN.{getD}
 use Rattle.splitting.specs.Places.{nxtAt, keyAt, jumpAt, tabAt, Frame}
-
--- The row at a place, and the value of a row; the level at which that changed last.
-abbrev pub rowAt : ℕ → List ℕ → ℕ → ℕ
-rowAt n s c = getD s (3 * n + c) 0
-
-abbrev pub valueAt : ℕ → List ℕ → ℕ → ℕ
-valueAt n s q = getD s (2 * n + q) 0
-
-abbrev pub stampAt : ℕ → List ℕ → ℕ → ℕ
-stampAt n s q = getD s (5 * n + q) 0
-
--- ---- signatures
-
-abbrev pub targetAt : ℕ → List ℕ → ℕ → ℕ → ℕ
-targetAt m cells q a = getD cells (q * m + a) 0
-
--- The class to which an event leads row q.
-abbrev pub classAt : ℕ → ℕ → List ℕ → List ℕ → ℕ → ℕ → ℕ
-classAt n m cells s q a = valueAt n s (targetAt m cells q a)
-
--- An event says the same of rows q and p: if it counts, it leads them to one class.
-abbrev pub Says : ℕ → ℕ → ℕ → List ℕ → List ℕ → ℕ → ℕ → ℕ → Type 0
-Says mask n m cells s q p a = weightBy mask a ≡ 1 → classAt n m cells s q a ≡ classAt n m cells s p a
-
--- Rows q and p have one signature.
-abbrev pub Signed : ℕ → ℕ → ℕ → List ℕ → List ℕ → ℕ → ℕ → Type 0
-Signed mask n m cells s q p = (a : ℕ) → a < m → Says mask n m cells s q p a
-
--- A key with one event more of row q, and the key of the row: any number would do that rows of one signature share.
-abbrev pub mixedAt : ℕ → ℕ → ℕ → List ℕ → List ℕ → ℕ → ℕ → ℕ → ℕ
-mixedAt mask n m cells s q a x = cond (eqb (weightBy mask a) 1) ((x + classAt n m cells s q a + 1) * 739982445 % 4294967296) x
-
-unfoldable pub mixedTo : ℕ → ℕ → ℕ → List ℕ → List ℕ → ℕ → ℕ → ℕ
-mixedTo mask n m cells s q zero = 0
-mixedTo mask n m cells s q (suc a) = mixedAt mask n m cells s q a (mixedTo mask n m cells s q a)
-
-abbrev pub keyOf : ℕ → ℕ → ℕ → List ℕ → List ℕ → ℕ → ℕ
-keyOf mask n m cells s q = mixedTo mask n m cells s q m / 65536
+use Rattle.signatures.specs.Signatures.{valueAt, targetAt}
+use Rattle.leader_table.specs.Putting.{rowAt, Old, slotOf, hashIn, Same}
 
 -- ---- the table
-
--- Some event leads row q to a row whose class changed at level `last`.
-abbrev pub Changed : ℕ → ℕ → List ℕ → List ℕ → ℕ → ℕ → Type 0
-Changed n m cells s last q = (a : ℕ) × (a < m) × (stampAt n s (targetAt m cells q a) ≡ last)
-
--- Place c is one of the `known` ones, and no change concerns it.
-abbrev pub Old : ℕ → ℕ → ℕ → ℕ → List ℕ → List ℕ → ℕ → Type 0
-Old n m known last cells s c = (c < known) × (Changed n m cells s last (rowAt n s c) → ⊥)
-
--- Place c is settled when the places below i have been put: it is one of them, or was in the table before.
-abbrev pub Settled : (ℕ → Type 0) → ℕ → ℕ → Type 0
-Settled old i c = (c < i) ⊎ old c
-
--- The slot of a key: below 2 * n, so that a third of the table is left behind the slots.
-abbrev pub slotOf : ℕ → ℕ → ℕ
-slotOf n h = h * (2 * n) / 65536
 
 -- Place c is found from the slot of its key on, with no empty cell before it, where `tab` gives the places + 1 of the table.
 pub record Entry (end : ℕ) (slot key tab : ℕ → ℕ) (c : ℕ) : Type 0 where
@@ -81,26 +25,11 @@ pub record Table (to end : ℕ) (slot hash : ℕ → ℕ) (settled : ℕ → Typ
   pub entries : (c : ℕ) → c < to → nxt c ≡ c → settled c → Entry end slot key tab c
   pub lone : (c d : ℕ) → c < to → d < to → nxt c ≡ c → nxt d ≡ d → settled c → settled d → same c d → c ≡ d
 
--- The key that a place should have, and places of one signature, in s.
-abbrev pub hashIn : ℕ → ℕ → ℕ → List ℕ → List ℕ → ℕ → ℕ
-hashIn mask n m cells s c = keyOf mask n m cells s (rowAt n s c)
-
-abbrev pub Same : ℕ → ℕ → ℕ → List ℕ → List ℕ → ℕ → ℕ → Type 0
-Same mask n m cells s c d = Signed mask n m cells s (rowAt n s c) (rowAt n s d)
-
 -- The same of the leaders, keys and table in t, with the signatures in s.
 abbrev pub TableIn : ℕ → ℕ → ℕ → ℕ → List ℕ → (ℕ → Type 0) → List ℕ → List ℕ → Type 0
 TableIn mask n m to cells settled s t = Table to (3 * n) (slotOf n) (hashIn mask n m cells s) settled (Same mask n m cells s) (nxtAt n t) (keyAt n t) (tabAt n t)
 
 -- ---- what is asked, and what is left
-
--- The numbers of rows, events and places, and the lent cells, fit together.
-pub record Sizes (n m to known : ℕ) (s : List ℕ) : Type 0 where
-  pub few : n ≤ 1024
-  pub room : 12 * n ≤ length s
-  pub events : m ≤ 32
-  pub inside : to ≤ n
-  pub past : known ≤ to
 
 -- The rows at hand and their targets are rows.
 pub record InHand (n m to : ℕ) (cells s : List ℕ) : Type 0 where

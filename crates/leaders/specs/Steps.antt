@@ -2,40 +2,12 @@
 use mathlib.Core.Path.{_≡_}
 use mathlib.Core.List.{List}
 use mathlib.Core.Logic.{_⊎_}
-use Prim.Native.Nat.{ℕ, suc, _+_, _*_, _≤_, _<_}
+use Prim.Native.Nat.{ℕ, _+_, _*_, _≤_, _<_}
 use lib.ListN.{getD, set}
 use Rattle.splitting.specs.Places.{nxtAt, keyAt, jumpAt, tabAt}
-use Rattle.leaders.specs.Leaders.{rowAt, valueAt, Old, Settled, slotOf, Table, hashIn, Same, Kept}
-
--- Place i may join place y: that one leads, is settled, and has the key and the signature of i.
-pub record Alike (mask n m to known last : ℕ) (cells s : List ℕ) (i y : ℕ) : Type 0 where
-  pub inside : y < to
-  pub other : y ≡ i → ⊥
-  pub leads : nxtAt n s y ≡ y
-  pub key : keyAt n s y ≡ keyAt n s i
-  pub settled : Settled (Old n m known last cells s) i y
-  pub signed : Same mask n m cells s y i
-
--- Cell r of the table is the first from the slot of place i on that is empty or has a place like i.
-pub record Found (mask n m to known last : ℕ) (cells : List ℕ) (i : ℕ) (s : List ℕ) (r : ℕ) : Type 0 where
-  pub from : slotOf n (keyAt n s i) ≤ r
-  pub filled : (x : ℕ) → slotOf n (keyAt n s i) ≤ x → x < r → tabAt n s x ≡ 0 → ⊥
-  pub unlike : (x y : ℕ) → slotOf n (keyAt n s i) ≤ x → x < r → tabAt n s x ≡ suc y → Alike mask n m to known last cells s i y → ⊥
-  pub like : (y : ℕ) → tabAt n s r ≡ suc y → Alike mask n m to known last cells s i y
-
--- What becomes of place i; k is what stands after its key has been noted.
-pub data Put (mask n m to known last : ℕ) (cells : List ℕ) (i : ℕ) (s t : List ℕ) (r : ℕ) : Type 0 where
-  -- There is no room in the table.
-  full : t ≡ set s (6 * n + i) (hashIn mask n m cells s i) → to < r → Put mask n m to known last cells i s t r
-  -- It is entered.
-  entered : (k : List ℕ) (at : ℕ) → k ≡ set s (6 * n + i) (hashIn mask n m cells s i) → at < 3 * n → Found mask n m to known last cells i k at
-      → tabAt n k at ≡ 0 → t ≡ set k (9 * n + at) (i + 1) → r ≡ to → Put mask n m to known last cells i s t r
-  -- It follows a lower place,
-  follows : (k : List ℕ) (y : ℕ) → k ≡ set s (6 * n + i) (hashIn mask n m cells s i) → Alike mask n m to known last cells k i y
-      → y < i → t ≡ set k (4 * n + i) y → r ≡ i → Put mask n m to known last cells i s t r
-  -- or leads a higher one, and takes its cell.
-  leads : (k : List ℕ) (at y : ℕ) → k ≡ set s (6 * n + i) (hashIn mask n m cells s i) → at < 3 * n → Found mask n m to known last cells i k at
-      → tabAt n k at ≡ suc y → Alike mask n m to known last cells k i y → i < y → t ≡ set (set k (4 * n + y) i) (9 * n + at) (i + 1) → r ≡ y → Put mask n m to known last cells i s t r
+use Rattle.signatures.specs.Signatures.{valueAt}
+use Rattle.leader_table.specs.Putting.{rowAt, Old, Settled, slotOf, hashIn, Same, Put}
+use Rattle.leaders.specs.Leaders.{Table, Kept}
 
 -- The turn of place i, where `lost` places below u lead no more.
 pub data Stepped (mask n m u to known last : ℕ) (cells : List ℕ) (i lost : ℕ) (s t : List ℕ) (r : ℕ) : Type 0 where

@@ -1,7 +1,7 @@
 use Prim.Native.Nat.{ℕ, _+_, _-_, _*_, _≤_}
 use mathlib.Core.Path.{_≡_, ap, subst, _∙_}
 use lib.ListN.{getD}
-use Rattle.leaders.specs.Leaders.{rowAt}
+use Rattle.leader_table.specs.Putting.{rowAt}
 use Rattle.leaders.specs.Steps.{Seeded}
 use Rattle.leaders.proofs.Regions.{kept-front, seeded-none, seeded-next}
 use native.Mathlib.Omega.{arith}

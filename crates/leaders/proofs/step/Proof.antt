@@ -1,7 +1,8 @@
 use mathlib.Core.Path.{refl, sym, _∙_}
 use mathlib.Core.Logic.{inl, inr}
+use borrow.Author.Tests.{not-true}
+use Rattle.leader_table.proofs.Cells.{put-size}
 use Rattle.leaders.specs.Steps.{rests, passed, noted, Stepped}
-use Rattle.leaders.proofs.Turns.{put-kept}
 use native.Mathlib.Omega.{arith}
 use borrow.Author.Needs.{needs}
 use Rattle.leaders.proofs.step.Statement.{statement}
@@ -10,37 +11,29 @@ use Rattle.leaders.proofs.step.Tie as tie
 returns : tie.Need-returns
 returns c = rests (inl (λ e. c .if1 .taken (c .before .wide .ensures ∙ e))) refl refl
 
-settled-requires : tie.Need-settled-requires
-settled-requires c κs =
-    let p = c .before .before .before .before .before .before .pre in
-    (record { few = p .0 .few; room = p .0 .room; events = p .0 .events; inside = omega arith; past = omega (arith, p .0 .past, p .0 .inside) }, omega (arith, p .0 .inside))
-
 returns-2 : tie.Need-returns-2
-returns-2 c = rests (inr (c .before .settled .ensures .holds (c .if2 .taken))) refl refl
-
-put-requires : tie.Need-put-requires
-put-requires c κs = (c .before .before .before .before .before .before .before .before .before .pre .0, c .before .before .before .before .before .before .before .before .before .pre .2)
+returns-2 c = rests (inr (inr (c .before .before .before .if2 .taken, c .before .changed .ensures .fails (not-true _ (c .if3 .taken))))) refl refl
 
 same-length-2 : tie.Need-same-length-2
-same-length-2 c = put-kept (c .before .before .before .before .before .before .before .before .before .before .before .before .before .pre .0 .inside) (c .before .before .before .before .before .before .before .before .before .before .before .before .before .pre .2) (c .before .before .before .put .ensures) .frame .size
+same-length-2 c = put-size (c .before .before .before .put .ensures .0 (c .before .before .before .before .before .before .before .before .before .before .before .pre .0) (c .before .before .before .before .before .before .before .before .before .before .before .pre .2))
 
 returns-3 : tie.Need-returns-3
-returns-3 c = Stepped.full _ (c .before .before .before .put .ensures) (omega arith)
+returns-3 c = Stepped.full _ (c .before .before .before .put .ensures .0 (c .before .before .before .before .before .before .before .before .before .before .before .pre .0) (c .before .before .before .before .before .before .before .before .before .before .before .pre .2)) (omega arith)
 
 same-length-3 : tie.Need-same-length-3
-same-length-3 c = put-kept (c .before .before .before .before .before .before .before .before .before .before .before .before .before .before .pre .0 .inside) (c .before .before .before .before .before .before .before .before .before .before .before .before .before .before .pre .2) (c .before .before .before .before .put .ensures) .frame .size
+same-length-3 c = put-size (c .before .before .before .before .put .ensures .0 (c .before .before .before .before .before .before .before .before .before .before .before .before .pre .0) (c .before .before .before .before .before .before .before .before .before .before .before .before .pre .2))
 
 returns-4 : tie.Need-returns-4
-returns-4 c = passed _ (sym (c .before .before .before .before .before .before .before .before .before .before .wide .ensures) ∙ c .before .before .before .before .before .before .before .before .before .if1 .left) (c .before .before .before .before .put .ensures) (c .if4 .taken) (omega arith) refl
+returns-4 c = passed _ (sym (c .before .before .before .before .before .before .before .before .wide .ensures) ∙ c .before .before .before .before .before .before .before .if1 .left) (c .before .before .before .before .put .ensures .0 (c .before .before .before .before .before .before .before .before .before .before .before .before .pre .0) (c .before .before .before .before .before .before .before .before .before .before .before .before .pre .2)) (c .if5 .taken) (omega arith) refl
 
 cast-scratch : tie.Need-cast-scratch
-cast-scratch c = omega (arith, c .before .before .before .before .before .before .before .before .before .before .before .before .before .before .pre .0 .few, c .before .before .before .before .before .before .before .before .before .before .before .before .before .before .pre .0 .inside, c .before .before .before .before .before .before .before .before .before .before .before .before .before .before .pre .1)
+cast-scratch c = omega (arith, c .before .before .before .before .before .before .before .before .before .before .before .before .pre .0 .few, c .before .before .before .before .before .before .before .before .before .before .before .before .pre .0 .inside, c .before .before .before .before .before .before .before .before .before .before .before .before .pre .1)
 
 slice-write-scratch : tie.Need-slice-write-scratch
-slice-write-scratch c = omega (arith, c .before .before .before .before .before .before .before .before .before .before .before .before .before .before .pre .0 .room, c .before .before .before .before .before .before .before .before .before .before .before .before .before .before .pre .0 .inside, c .before .before .before .before .before .before .before .before .before .before .before .before .before .before .pre .2, c .before .before .before .before .before .before .before .before .before .before .before .before .before .before .pre .3, put-kept (c .before .before .before .before .before .before .before .before .before .before .before .before .before .before .pre .0 .inside) (c .before .before .before .before .before .before .before .before .before .before .before .before .before .before .pre .2) (c .before .before .before .before .put .ensures) .frame .size)
+slice-write-scratch c = omega (arith, c .before .before .before .before .before .before .before .before .before .before .before .before .pre .0 .room, c .before .before .before .before .before .before .before .before .before .before .before .before .pre .0 .inside, c .before .before .before .before .before .before .before .before .before .before .before .before .pre .2, c .before .before .before .before .before .before .before .before .before .before .before .before .pre .3, put-size (c .before .before .before .before .put .ensures .0 (c .before .before .before .before .before .before .before .before .before .before .before .before .pre .0) (c .before .before .before .before .before .before .before .before .before .before .before .before .pre .2)))
 
 returns-5 : tie.Need-returns-5
-returns-5 c = noted _ _ (sym (c .before .before .before .before .before .before .before .before .before .before .wide .ensures) ∙ c .before .before .before .before .before .before .before .before .before .if1 .left) (c .before .before .before .before .put .ensures) (omega arith) refl refl
+returns-5 c = noted _ _ (sym (c .before .before .before .before .before .before .before .before .wide .ensures) ∙ c .before .before .before .before .before .before .before .if1 .left) (c .before .before .before .before .put .ensures .0 (c .before .before .before .before .before .before .before .before .before .before .before .before .pre .0) (c .before .before .before .before .before .before .before .before .before .before .before .before .pre .2)) (omega arith) refl refl
 
 pub step-spec : {M : Type 1} → statement M
 step-spec =
@@ -52,10 +45,16 @@ step-spec =
     (λ c. search needs)
     (λ c κs. search needs)
     returns
-    settled-requires
+    (λ c. search needs)
+    (λ c. search needs)
+    (λ c. search needs)
+    (λ c. search needs)
+    (λ c. search needs)
+    (λ c. search needs)
+    (λ c κs. search needs)
     (λ c. search needs)
     returns-2
-    put-requires
+    (λ c κs. search needs)
     same-length-2
     returns-3
     same-length-3
