@@ -26,3 +26,4 @@ pub mod sheet;
 pub mod small;
 pub mod spoiled;
 pub mod table;
+pub mod wrong;

@@ -26,6 +26,7 @@ use independent::shapes::{mask, offsets_for, table, with_mask, Shape, SHAPES};
 use independent::small::{all_masks, all_tables, reached_tables};
 use independent::spoiled::{find, REDUCER_FAULTS, SECOND_WAY_FAULTS};
 use independent::table::{every_event, Mask, Offset, Table};
+use independent::wrong::{add, resized, set};
 
 const TOO_SHORT: Answer = [7, 0, 0, 0];
 
@@ -503,22 +504,6 @@ const WRONG: [Wrong; 47] = [
     }),
     (7, |g| set(&mut g.lent, Lengths { cells: 0, marks: 0, scratch: 0 })),
 ];
-
-fn set<T>(item: &mut T, value: T) -> Option<usize> {
-    *item = value;
-    Some(0)
-}
-
-/// Adds to a number; the greatest one takes 1 away.
-fn add(number: &mut usize, more: usize) -> Option<usize> {
-    *number = number.wrapping_add(more);
-    Some(0)
-}
-
-fn resized<T: Clone + Default>(list: &mut Vec<T>, more: isize) -> Option<usize> {
-    list.resize(list.len().wrapping_add_signed(more), T::default());
-    Some(0)
-}
 
 /// A target that is so much above the last row.
 fn no_row(given: &mut Given, cell: usize, above: usize) -> Option<usize> {

@@ -29,6 +29,7 @@ use independent::shapes::{comb, mask, table, with_mask, Shape, SHAPES};
 use independent::small::{all_masks, all_tables, reached_tables};
 use independent::spoiled::find_with;
 use independent::table::{every_event, Mask, Offset, Table};
+use independent::wrong::{add, resized, set};
 
 /// A call that lends the named scratch and so many bytes for the run.
 fn call(given: &Table, mask: Mask, offset: u32, row: usize, run: usize, fill: Fill) -> Call {
@@ -536,22 +537,6 @@ const WRONG: [Wrong; 51] = [
 /// So many scratch cells for the rows.
 fn lend(call: &mut Call, scratch: fn(usize) -> usize) -> Option<usize> {
     call.scratch = scratch(call.asked.given.rows);
-    Some(0)
-}
-
-fn set<T>(item: &mut T, value: T) -> Option<usize> {
-    *item = value;
-    Some(0)
-}
-
-/// Adds to a number; the greatest one takes 1 away.
-fn add(number: &mut usize, more: usize) -> Option<usize> {
-    *number = number.wrapping_add(more);
-    Some(0)
-}
-
-fn resized<T: Clone + Default>(list: &mut Vec<T>, more: isize) -> Option<usize> {
-    list.resize(list.len().wrapping_add_signed(more), T::default());
     Some(0)
 }
 
