@@ -7,7 +7,7 @@ use Prim.Native.Nat.{ℕ, suc, _+_, _-_, _≤_, _<_}
 use native.Mathlib.Omega.{arith}
 use native.Mathlib.Decide.{decLe}
 use lib.ListN.{length}
-use Rattle.automata.specs.Runs.{Events, Machine, Sound, Light, Len, len, endless, IsDistance}
+use Rattle.automata.specs.Runs.{Events, Machine, Sound, Light, size, Len, len, endless, IsDistance}
 use Rattle.tables.proofs.Lengths.{distance-one}
 use Rattle.chosen.specs.declared.First.{First}
 use Rattle.chosen.specs.declared.First.the-variants.{Unsettled, End, Event}
@@ -56,6 +56,10 @@ module _ (E : Events) (M : Machine) (D : ℕ → ℕ → Len) where
         | inr l ↦ turn-flip p q hp hq (h p q hp l)
       ]
     ]
+
+  size-most : Light E → (w : List ℕ) → size E w ≤ length w
+  size-most z [] = omega arith
+  size-most z (a ∷ w) = omega (arith, z .at-most a, size-most z w)
 
   module _ (s : Sound E M) (z : Light E) (right : (q p : ℕ) → q < M .rows → p < M .rows → IsDistance E M q p (D q p)) where
     distant : {q p d : ℕ} → q < M .rows → p < M .rows → D q p ≡ len d → IsDistance E M q p (len d)
@@ -130,6 +134,12 @@ module _ (E : Events) (M : Machine) (D : ℕ → ℕ → Len) where
       -- No event is ready where the distance is 0 or endless.
       pub never-ready : (q p d b : ℕ) → q < M .rows → p < M .rows → d ≡ 0 → ¬ Ready E M D F q p d b
       never-ready q p d b hq hp e r = let u = ready-run q p d b hq hp r in omega (arith, u .1 .counted)
+
+      -- Where an event is ready, the distance is at most two more than the rounds so far: a run has no fewer events than counted ones.
+      pub ready-few : (q p d b : ℕ) → q < M .rows → p < M .rows → Ready E M D F q p d b → d ≤ l + 2
+      ready-few q p d b hq hp r =
+          let u = ready-run q p d b hq hp r in
+          omega (arith, u .1 .counted, size-most z (b ∷ u .0), u .2)
 
       -- The distance can be had from where a ready event leads.
       pub ready-distance : (q p d b e : ℕ) → q < M .rows → p < M .rows → Ready E M D F q p d b → D (M .target q b) (M .target p b) ≡ len e → e + E .weight b ≡ d

@@ -14,7 +14,7 @@ use Rattle.chosen.specs.declared.First.{First}
 use Rattle.chosen.specs.declared.First.the-variants.{Unsettled, Event}
 use Rattle.chosen.specs.Choice.{IsChosen, headOf}
 use Rattle.chosen.specs.Rounds.{Turn, Ready as IsReady}
-use Rattle.chosen.proofs.Rounds.{turn-triangle, never-ready, stage-next, stage-still, stage-all}
+use Rattle.chosen.proofs.Rounds.{turn-triangle, never-ready, ready-few, stage-next, stage-still, stage-all}
 use Rattle.chosen.proofs.Theorems.{rounds-right}
 use Rattle.pairs.specs.Pairs.{triangle, pairAt}
 use Rattle.pairs.proofs.Cells.{pair-same}
@@ -52,15 +52,15 @@ module _ {E : Events} {M : Machine} {s : List ℕ} (g : Given E M s) (z : Light 
     takes : (d a : ℕ) → distance E M q p ≡ len d → firstAt s q p ≡ Unsettled → d < 1024 → pairAt s q p ≡ d → pairAt t q p ≡ 1024 + a
         → IsReady E M (distance E M) (firstAt s) q p d a → ((b : ℕ) → b < a → IsReady E M (distance E M) (firstAt s) q p d b → ⊥) → Took t q p
 
-  module _ {t : List ℕ} (w : Sweeping Takes E M (triangle (M .rows)) s t) where
+  module _ {most : ℕ} (low : most < 1024) (far : l + 2 ≤ most) {t : List ℕ} (w : Sweeping (Takes most) E M (triangle (M .rows)) s t) where
     took : (q p : ℕ) → q < M .rows → p < q → Took t q p
     took q p hq hp = pick (w .done q p hq hp (omega (arith, triangle-next q (M .rows) hq))) (kinds g z r q p hq hr)
       where
         hr : p < M .rows
         hr = omega arith
 
-        pick : Taken E M (pairAt s) q p (pairAt t q p) → Kind (distance E M q p) (firstAt s q p) (pairAt s q p) → Took t q p
-        pick (inl y) (alone d x f c h) = absurd (omega (arith, y .0))
+        pick : Taken E M (pairAt s) most q p (pairAt t q p) → Kind (distance E M q p) (firstAt s q p) (pairAt s q p) → Took t q p
+        pick (inl y) (alone d x f c h) = stays (y .1) (λ o d′ b e i. omega (arith, y .0, len-one e x, ready-few E M (distance E M) (g .sound) z right (firstAt s) l (r .stage) q p d′ b hq hr i))
         pick (inl y) (never x f c) = stays (y .1) (λ o d b e. no-end x e)
         pick (inl y) (whole d x f lo up) = stays (y .1) (λ o. absurd (f o))
         pick (inr y) (never x f c) = absurd (omega (arith, y .0))

@@ -25,12 +25,12 @@ use Rattle.first_events.specs.Passes.{led, Ready, Lowest, Ended, Taken, 
 -- What a pass may make of a number: only a distance becomes an event, and only an event becomes settled.
 abbrev pub Moved : Pass → ℕ → ℕ → Type 0
 Moved Ends x y = Unit {0}
-Moved Takes x y = (y ≡ x) ⊎ ((x < 1024) × (1024 ≤ y) × (y < 1056))
+Moved (Takes most) x y = (y ≡ x) ⊎ ((x ≤ most) × (1024 ≤ y) × (y < 1056))
 Moved Settles x y = (y ≡ x) ⊎ ((1024 ≤ x) × (x < 1056))
 
 same-moved : (pass : Pass) (x y : ℕ) → y ≡ x → Moved pass x y
 same-moved Ends x y e = tt
-same-moved Takes x y e = inl e
+same-moved (Takes most) x y e = inl e
 same-moved Settles x y e = inl e
 
 -- Nothing is known below 1,056.
@@ -40,8 +40,8 @@ low-first x h = ap (λ (m : Measure). m .first) (read-low x h)
 module _ (E : Events) (M : Machine) (few : E .count ≤ 32) where
   turned-moved : (pass : Pass) (c : ℕ → ℕ → ℕ) (q p x : ℕ) → Turned pass E M c q p x → Moved pass (c q p) x
   turned-moved Ends c q p x t = tt
-  turned-moved Takes c q p x (inl t) = inl (t .1)
-  turned-moved Takes c q p x (inr t) = elim (t .1 .2) [ inl y ↦ inr (t .0, omega (arith, y .1), omega (arith, y .0, y .1)) | inr y ↦ inl (y .1) ]
+  turned-moved (Takes most) c q p x (inl t) = inl (t .1)
+  turned-moved (Takes most) c q p x (inr t) = elim (t .1 .2) [ inl y ↦ inr (t .0, omega (arith, y .1), omega (arith, y .0, y .1)) | inr y ↦ inl (y .1) ]
   turned-moved Settles c q p x (inl t) = inl (t .1)
   turned-moved Settles c q p x (inr t) = inr (omega (arith, t .1), omega (arith, t .1, t .2))
 
@@ -51,9 +51,9 @@ module _ (E : Events) (M : Machine) (few : E .count ≤ 32) where
     ended-before q p x e (inl t) = inl (sym e ∙ t .0, t .1, t .2)
     ended-before q p x e (inr t) = inr (λ y. t .0 (e ∙ y .0, y .1), t .1 ∙ e)
 
-    module _ (moved : (q p : ℕ) → q < M .rows → p < M .rows → Moved Takes (c₀ q p) (c q p)) where
+    module _ (most : ℕ) (low : most < 1024) (moved : (q p : ℕ) → q < M .rows → p < M .rows → Moved (Takes most) (c₀ q p) (c q p)) where
       -- A pair of targets says the same, or nothing is known of its run.
-      ready-one : (d q p a x y : ℕ) → (y ≡ x) ⊎ ((x < 1024) × (1024 ≤ y) × (y < 1056)) → led E M c q p a ≡ y → led E M c₀ q p a ≡ x
+      ready-one : (d q p a x y : ℕ) → (y ≡ x) ⊎ ((x ≤ most) × (1024 ≤ y) × (y < 1056)) → led E M c q p a ≡ y → led E M c₀ q p a ≡ x
           → (Ready E M c d q p a → Ready E M c₀ d q p a) × (Ready E M c₀ d q p a → Ready E M c d q p a)
       ready-one d q p a x y (inl e) hy hx =
           let g = ap measureIn (hy ∙ e ∙ sym hx) in (
@@ -75,7 +75,7 @@ module _ (E : Events) (M : Machine) (few : E .count ≤ 32) where
         none-lower = λ b h r. l .none-lower b h (ready-both d q p b hq hp (omega (arith, l .at-most)) .1 r);
       }
 
-      taken-before : (q p x : ℕ) → q < M .rows → p < M .rows → c q p ≡ c₀ q p → Taken E M c q p x → Taken E M c₀ q p x
+      taken-before : (q p x : ℕ) → q < M .rows → p < M .rows → c q p ≡ c₀ q p → Taken E M c most q p x → Taken E M c₀ most q p x
       taken-before q p x hq hp e (inl t) = inl (omega (arith, e, t .0), t .1 ∙ e)
       taken-before q p x hq hp e (inr t) = inr (
         omega (arith, e, t .0),
@@ -110,7 +110,7 @@ module _ (E : Events) (M : Machine) (few : E .count ≤ 32) where
     turned-before : (pass : Pass) → Before pass E M c₀ → ((q p : ℕ) → q < M .rows → p < M .rows → Moved pass (c₀ q p) (c q p))
         → (q p x : ℕ) → q < M .rows → p < M .rows → c q p ≡ c₀ q p → Turned pass E M c q p x → Turned pass E M c₀ q p x
     turned-before Ends b m q p x hq hp e t = ended-before q p x e t
-    turned-before Takes b m q p x hq hp e t = taken-before m q p x hq hp e t
+    turned-before (Takes most) b m q p x hq hp e t = taken-before most b m q p x hq hp e t
     turned-before Settles b m q p x hq hp e t = settled-before b m q p x hq hp e t
 
   -- ---- the sweep

@@ -68,17 +68,17 @@ module _ (E : Events) (M : Machine) (c : ℕ → ℕ → ℕ) (q p : ℕ) where
         far : measureIn (led E M c q p a) .distance + E .weight a ≡ f + v
         far = sym (ap₂ _+_ (hf ∙ ap (λ (z : Measure). z .distance) hm) (hv ∙ hw))
 
-  pub taken-other : {x : ℕ} → x ≡ c q p → 1024 ≤ x → Taken E M c q p x
+  pub taken-other : {most x : ℕ} → x ≡ c q p → most < x → Taken E M c most q p x
   taken-other e h = inl (omega (arith, e), e)
 
-  module _ {x a : ℕ} (e : x ≡ c q p) (low : x < 1024) (l : Lowest E M c x q p (E .count) a) where
+  module _ {most x a : ℕ} (e : x ≡ c q p) (low : x ≤ most) (l : Lowest E M c x q p (E .count) a) where
     lowest-here : Lowest E M c (c q p) q p (E .count) a
     lowest-here = subst (λ (d : ℕ). Lowest E M c d q p (E .count) a) e l
 
-    pub taken-some : {r : ℕ} → a < E .count → r ≡ 1024 + a → Taken E M c q p r
+    pub taken-some : {r : ℕ} → a < E .count → r ≡ 1024 + a → Taken E M c most q p r
     taken-some h k = inr (omega (arith, e), (a, lowest-here, inl (h, k)))
 
-    pub taken-none : E .count ≤ a → Taken E M c q p x
+    pub taken-none : E .count ≤ a → Taken E M c most q p x
     taken-none h = inr (omega (arith, e), (a, lowest-here, inr (h, e)))
 
   -- ---- after it

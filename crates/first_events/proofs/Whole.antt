@@ -46,31 +46,31 @@ reached-at {E} {M} {s} e r = subst (λ (n : ℕ). Reached E M n s) e r
 
 module _ {E : Events} {M : Machine} {s : List ℕ} (g : Given E M s) (z : Light E) where
   -- ---- a round
-  module _ {t : List ℕ} {a : Bool} (x : Swept Takes E M 0 (triangle (M .rows)) s t a) where
-    taking : Sweeping Takes E M (triangle (M .rows)) s t
-    taking = x .goes s (g .sound) (g .room) tt (sweeping-begins E M (g .few-events) Takes s)
+  module _ {most : ℕ} (low : most < 1024) {t : List ℕ} {a : Bool} (x : Swept (Takes most) E M 0 (triangle (M .rows)) s t a) where
+    taking : Sweeping (Takes most) E M (triangle (M .rows)) s t
+    taking = x .goes s (g .sound) (g .room) low (sweeping-begins E M (g .few-events) (Takes most) s)
 
-    pub round-none : a ≡ false → Rounded E M s t false
+    pub round-none : a ≡ false → Rounded E M most s t false
     round-none e = record {
-      framed = λ l r. record { size = taking .size; rest = taking .rest };
-      next = λ l r h. absurd (false≢true h);
-      last = λ l r h. subst (Complete E M) (sym (x .kept e)) (told-last g z r taking (x .kept e));
+      framed = λ l f r. record { size = taking .size; rest = taking .rest };
+      next = λ l f r h. absurd (false≢true h);
+      last = λ l f r h. subst (Complete E M) (sym (x .kept e)) (told-last g z r low f taking (x .kept e));
     }
 
     module _ {u : List ℕ} {b : Bool} (y : Swept Settles E M 0 (triangle (M .rows)) t u b) where
-      settling : (l : ℕ) → Reached E M l s → Sweeping Settles E M (triangle (M .rows)) t u
-      settling l r = y .goes t (g .sound) (omega (arith, g .room, x .size)) (before-settling g z r taking) (sweeping-begins E M (g .few-events) Settles t)
+      settling : (l : ℕ) → l + 2 ≤ most → Reached E M l s → Sweeping Settles E M (triangle (M .rows)) t u
+      settling l f r = y .goes t (g .sound) (omega (arith, g .room, x .size)) (before-settling g z r low f taking) (sweeping-begins E M (g .few-events) Settles t)
 
-      pub round-some : Rounded E M s u true
+      pub round-some : Rounded E M most s u true
       round-some = record {
-        framed = λ l r. let v = settling l r in record { size = v .size ∙ taking .size; rest = v .rest ∙ taking .rest };
-        next = λ l r h. reached-next g z r taking (settling l r);
-        last = λ l r h. absurd (true≢false h);
+        framed = λ l f r. let v = settling l f r in record { size = v .size ∙ taking .size; rest = v .rest ∙ taking .rest };
+        next = λ l f r h. reached-next g z r low f taking (settling l f r);
+        last = λ l f r h. absurd (true≢false h);
       }
 
   -- ---- rounds
-  pub rounds-last : {t u : List ℕ} {b : Bool} (l : ℕ) → Framed M s t → Reached E M l t → Rounded E M t u b → b ≡ false → Searched E M s u
-  rounds-last l f r y e = record { framed = framed-then f (y .framed l r); complete = y .last l r e }
+  pub rounds-last : {most : ℕ} {t u : List ℕ} {b : Bool} (l : ℕ) → l + 2 ≤ most → Framed M s t → Reached E M l t → Rounded E M most t u b → b ≡ false → Searched E M s u
+  rounds-last l h f r y e = record { framed = framed-then f (y .framed l h r); complete = y .last l h r e }
 
   pub rounds-all : {t : List ℕ} (l : ℕ) → M .rows ≤ l + 2 → Framed M s t → Reached E M l t → Searched E M s t
   rounds-all l h f r = record { framed = f; complete = told-all (given-framed g (f .size)) z r h }

@@ -35,11 +35,11 @@ module _ (E : Events) (M : Machine) (c : ℕ → ℕ → ℕ) where
       ((c q p ≡ 1) × (M .mark q ≡ M .mark p → ⊥) × (x ≡ settledAt 1 32))
       ⊎ (((c q p ≡ 1) × (M .mark q ≡ M .mark p → ⊥) → ⊥) × (x ≡ c q p))
 
-  -- In each round, an unsettled pair takes the lowest event that is ready, as a number from 1,024 on, so that no other pair of the round sees it settled.
-  abbrev pub Taken : ℕ → ℕ → ℕ → Type 0
-  Taken q p x =
-      ((1024 ≤ c q p) × (x ≡ c q p))
-      ⊎ ((c q p < 1024) × ((a : ℕ) × Lowest (c q p) q p (E .count) a × (((a < E .count) × (x ≡ 1024 + a)) ⊎ ((E .count ≤ a) × (x ≡ c q p)))))
+  -- In each round, an unsettled pair takes the lowest event that is ready, as a number from 1,024 on, so that no other pair of the round sees it settled. A pair of a distance above `most`, or that is settled, is left as it is.
+  abbrev pub Taken : ℕ → ℕ → ℕ → ℕ → Type 0
+  Taken most q p x =
+      ((most < c q p) × (x ≡ c q p))
+      ⊎ ((c q p ≤ most) × ((a : ℕ) × Lowest (c q p) q p (E .count) a × (((a < E .count) × (x ≡ 1024 + a)) ⊎ ((E .count ≤ a) × (x ≡ c q p)))))
 
   -- Then a pair that took an event is settled, at the distance to which the event leads and its weight.
   abbrev pub Settled : ℕ → ℕ → ℕ → Type 0
@@ -50,7 +50,7 @@ module _ (E : Events) (M : Machine) (c : ℕ → ℕ → ℕ) where
 -- What a pass makes of rows q and p, by the cells c: x is their cell afterwards.
 abbrev pub Turned : Pass → Events → Machine → (ℕ → ℕ → ℕ) → ℕ → ℕ → ℕ → Type 0
 Turned Ends E M c q p x = Ended E M c q p x
-Turned Takes E M c q p x = Taken E M c q p x
+Turned (Takes most) E M c q p x = Taken E M c most q p x
 Turned Settles E M c q p x = Settled E M c q p x
 
 -- One pair's turn, from s to t; r says whether its cell changed.
@@ -60,10 +60,10 @@ pub record Visited (pass : Pass) (E : Events) (M : Machine) (q p : ℕ) (s t : L
   pub put : t ≡ set s (triangle q + p) cell
   pub kept : r ≡ false → t ≡ s
 
--- What a pass leans on: an event that was taken leads to a settled pair.
+-- What a pass leans on: `most` is a distance; an event that was taken leads to a settled pair.
 abbrev pub Before : Pass → Events → Machine → (ℕ → ℕ → ℕ) → Type 0
 Before Ends E M c = Unit {0}
-Before Takes E M c = Unit {0}
+Before (Takes most) E M c = most < 1024
 Before Settles E M c = (q p a : ℕ) → q < M .rows → p < M .rows → c q p ≡ 1024 + a → a < 32 → (a < E .count) × (measureIn (led E M c q p a) .first ≡ Unsettled → ⊥)
 
 -- A pass over s₀ has come to a cell: before it each pair has had its turn, and from there on nothing has changed.

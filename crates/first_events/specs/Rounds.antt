@@ -2,7 +2,7 @@
 use mathlib.Core.Path.{_≡_}
 use mathlib.Core.Bool.{Bool, true, false}
 use mathlib.Core.List.{List}
-use Prim.Native.Nat.{ℕ, suc, _≤_, _<_}
+use Prim.Native.Nat.{ℕ, suc, _+_, _≤_, _<_}
 use lib.ListN.{length, drop}
 use Rattle.automata.specs.Runs.{Events, Machine, Sound}
 use Rattle.tables.specs.Lengths.{distance}
@@ -42,11 +42,11 @@ module _ (E : Events) (M : Machine) where
   abbrev pub Complete : List ℕ → Type 0
   Complete s = (q p : ℕ) → q < M .rows → p < M .rows → pairAt s q p ≡ cellFor E M q p
 
-  -- A round from s to t; r says whether a pair took an event.
-  pub record Rounded (s t : List ℕ) (r : Bool) : Type 0 where
-    pub framed : (l : ℕ) → Reached l s → Framed M s t
-    pub next : (l : ℕ) → Reached l s → r ≡ true → Reached (suc l) t
-    pub last : (l : ℕ) → Reached l s → r ≡ false → Complete t
+  -- A round from s to t that looks at distances up to `most`; r says whether a pair took an event.
+  pub record Rounded (most : ℕ) (s t : List ℕ) (r : Bool) : Type 0 where
+    pub framed : (l : ℕ) → l + 2 ≤ most → Reached l s → Framed M s t
+    pub next : (l : ℕ) → l + 2 ≤ most → Reached l s → r ≡ true → Reached (suc l) t
+    pub last : (l : ℕ) → l + 2 ≤ most → Reached l s → r ≡ false → Complete t
 
   -- The whole search, from s to t.
   pub record Searched (s t : List ℕ) : Type 0 where

@@ -14,10 +14,10 @@ ghost use Rattle.first_events.specs.Passes.{Ready, Lowest, Ended, Taken,
 ghost use Rattle.first_events.specs.Rounds.{Given, Distances, Reached, Rounded, Searched};
 use chosen::First;
 
-// The passes over all pairs.
+// The passes over all pairs. A round looks at distances up to a number only: no higher one can be settled in it.
 pub enum Pass {
     Ends,
-    Takes,
+    Takes(u16),
     Settles,
 }
 
@@ -140,6 +140,7 @@ fn taken(
     marks: &[u8],
     starts: &[u32],
     scratch: &[u16],
+    most: u16,
     q: u16,
     p: u16,
     cell: u16,
@@ -147,9 +148,9 @@ fn taken(
     requires { ⌜ now starts ≡ rowStarts ⌝ }
     requires { ⌜ cell ≡ pairAt (now scratch) q p ⌝ }
     requires { ⌜ events ≤ 32 ⌝ }
-    ensures { λ r. ⌜ Taken (eventsBy mask events) (machineBy rows events (now (cells .entry)) (now (marks .entry))) (pairAt (now (scratch .entry))) q p r ⌝ }
+    ensures { λ r. ⌜ Taken (eventsBy mask events) (machineBy rows events (now (cells .entry)) (now (marks .entry))) (pairAt (now (scratch .entry))) most q p r ⌝ }
 {
-    if 1024 <= cell {
+    if most < cell {
         return cell;
     }
     let event = first_ready(
@@ -226,7 +227,7 @@ fn turn(
 {
     match pass {
         Pass::Ends => ended(mask, rows, events, cells, marks, scratch, q, p, cell),
-        Pass::Takes => taken(
+        Pass::Takes(most) => taken(
             mask,
             rows,
             events,
@@ -234,6 +235,7 @@ fn turn(
             marks,
             starts,
             scratch,
+            most,
             q,
             p,
             cell,
@@ -357,7 +359,7 @@ fn sweep(
     changed
 }
 
-// A round: unsettled pairs take an event, and then are settled. Whether one did.
+// A round: unsettled pairs of a distance up to a number take an event, and then are settled. Whether one did.
 fn round(
     mask: u32,
     rows: u16,
@@ -365,29 +367,31 @@ fn round(
     cells: &[u16],
     marks: &[u8],
     scratch: &mut [u16],
+    most: u16,
 ) -> bool
     requires { ⌜ Given (eventsBy mask events) (machineBy rows events (now cells) (now marks)) (now scratch) ⌝ }
-    ensures { λ r. ⌜ Rounded (eventsBy mask events) (machineBy rows events (now (cells .entry)) (now (marks .entry))) (now (scratch .entry)) (now (scratch .exit)) r ⌝ }
+    requires { ⌜ most < 1024 ⌝ }
+    ensures { λ r. ⌜ Rounded (eventsBy mask events) (machineBy rows events (now (cells .entry)) (now (marks .entry))) most (now (scratch .entry)) (now (scratch .exit)) r ⌝ }
 {
-    if sweep(Pass::Takes, mask, rows, events, cells, marks, scratch) {
+    if sweep(Pass::Takes(most), mask, rows, events, cells, marks, scratch) {
         sweep(Pass::Settles, mask, rows, events, cells, marks, scratch);
         return true;
     }
     false
 }
 
-// Rounds over the length of runs, until one changes nothing: no run has more events than rows less two.
+// Rounds over the length of runs, until one changes nothing: no run has more events than rows less two. A run of so many events has a distance of at most one more.
 fn rounds(mask: u32, rows: u16, events: u16, cells: &[u16], marks: &[u8], scratch: &mut [u16])
     requires { ⌜ Given (eventsBy mask events) (machineBy rows events (now cells) (now marks)) (now scratch) ⌝ }
     requires { ⌜ Reached (eventsBy mask events) (machineBy rows events (now cells) (now marks)) 0 (now scratch) ⌝ }
     ensures { λ _. ⌜ Searched (eventsBy mask events) (machineBy rows events (now (cells .entry)) (now (marks .entry))) (now (scratch .entry)) (now (scratch .exit)) ⌝ }
 {
-    let mut length = 2;
-    while length < rows {
-        if !round(mask, rows, events, cells, marks, scratch) {
+    let mut most = 2;
+    while most < rows {
+        if !round(mask, rows, events, cells, marks, scratch, most) {
             return;
         }
-        length += 1;
+        most += 1;
     }
 }
 

@@ -14,13 +14,13 @@ returns c =
 
 returns-2 : tie.Need-returns-2
 returns-2 c =
-    let a = c .before .before .before .before .before .before .before .args in
-    subst (λ (x : Pass). Turned x (eventsBy (a .mask) (a .events)) (machineBy (a .rows) (a .events) (a .cells .now) (a .marks .now)) (pairAt (a .scratch .now)) (a .q) (a .p) (c .taken .result)) (sym (c .before .enum-told2 .given .1)) (c .taken .ensures)
+    let a = c .before .before .before .before .before .before .before .before .args in
+    subst (λ (x : Pass). Turned x (eventsBy (a .mask) (a .events)) (machineBy (a .rows) (a .events) (a .cells .now) (a .marks .now)) (pairAt (a .scratch .now)) (a .q) (a .p) (c .taken .result)) (sym (c .before .before .pass .given .1)) (c .taken .ensures)
 
 returns-3 : tie.Need-returns-3
 returns-3 c =
     let a = c .before .before .before .before .before .before .before .args in
-    subst (λ (x : Pass). Turned x (eventsBy (a .mask) (a .events)) (machineBy (a .rows) (a .events) (a .cells .now) (a .marks .now)) (pairAt (a .scratch .now)) (a .q) (a .p) (c .settled .result)) (sym (c .before .enum-told3 .given .1)) (c .settled .ensures)
+    subst (λ (x : Pass). Turned x (eventsBy (a .mask) (a .events)) (machineBy (a .rows) (a .events) (a .cells .now) (a .marks .now)) (pairAt (a .scratch .now)) (a .q) (a .p) (c .settled .result)) (sym (c .before .enum-told2 .given .1)) (c .settled .ensures)
 
 pub turn-spec : {M : Type 1} → statement M
 turn-spec =
