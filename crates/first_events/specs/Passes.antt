@@ -3,10 +3,9 @@ use mathlib.Core.Path.{_≡_}
 use mathlib.Core.Bool.{Bool, false}
 use mathlib.Core.List.{List}
 use mathlib.Core.Logic.{_⊎_}
-use Prim.Native.Nat.{ℕ, suc, _+_, _≤_, _<_}
+use Prim.Native.Nat.{ℕ, _+_, _≤_, _<_}
 use lib.ListN.{length, drop, set}
-use Rattle.automata.specs.Runs.{Events, Machine, Sound, Len}
-use Rattle.chosen.specs.declared.First.{First}
+use Rattle.automata.specs.Runs.{Events, Machine, Sound}
 use Rattle.chosen.specs.declared.First.the-variants.{Unsettled}
 use Rattle.pairs.specs.Pairs.{triangle, pairAt}
 use Rattle.measures.specs.Measures.{settledAt, measureIn}

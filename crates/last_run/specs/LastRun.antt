@@ -22,7 +22,7 @@ pub record Promise (v : Verdict) (g : Loss) (k : Offset) (mask : ℕ) (T : Table
   -- The first rule broken gives the answer, 18 last of all; the run is written only if none is.
   pub answers : r ≡ answerBy (lastOfAll v g (length run)) g
   pub run-after : run′ ≡ leftBy (lastOfAll v g (length run)) run (g .run)
-  -- "Only the scratch is then changed, to 0, in spite of demand 1": 18 leaves the scratch as no refusal does; every other leaves it as it was.
+  -- "Only the scratch is then changed, to 0, in spite of demand 1": 18 leaves the scratch as success does; every other refusal leaves it as it was.
   pub scratch-after : scratch′ ≡ leftBy v scratch (replicate (scratchCells (T .rows)) 0)
   -- What is given up, by the run that is written.
   pub gives-up : (far n p : ℕ) → r ≡ told.Run far n → fateOf (eventsOf (weightBy mask) T) (machine T) k row ≡ foldedInto p
