@@ -1,5 +1,4 @@
 -- How much a row gives up at most, also in a table that breaks rules: fewer events than rows, and a distance below them.
-use mathlib.Core.Path.{_≡_, subst}
 use mathlib.Core.List.{List, [], _∷_}
 use mathlib.Core.Option.{Option, some, none}
 use Prim.Native.Nat.{ℕ, zero, suc, _≤_, _<_}

@@ -1,20 +1,19 @@
 -- `chosen` computes the chosen run; it is walked by first events.
 use mathlib.Core.Path.{_≡_, refl, ap, subst, _∙_}
-use mathlib.Core.List.{List, [], _∷_}
+use mathlib.Core.List.{List, _∷_}
 use mathlib.Core.Option.{Option, some, none}
 use mathlib.Core.Logic.{_⊎_, inl, inr}
 use Prim.Native.Nat.{ℕ, zero, suc, _+_, _≤_, _<_}
 use native.Mathlib.Omega.{arith}
 use lib.ListN.{length}
-use Rattle.automata.specs.Runs.{Events, Machine, Sound, Light, Run, size, Len, len, endless, IsDistance}
+use Rattle.automata.specs.Runs.{Events, Machine, Sound, Light, Len, len, endless, IsDistance}
 use Rattle.tables.specs.Lengths.{distance}
 use Rattle.tables.proofs.Lengths.{distance-is, distance-one}
 use Rattle.tables.proofs.Symmetry.{distance-turn}
 use Rattle.chosen.specs.declared.First.{First}
-use Rattle.chosen.specs.declared.First.the-variants.{Unsettled, End, Event}
-use Rattle.chosen.specs.Choice.{SameAfter, IsChosen, headOf, firstSome, lookAt, chosenAt, chosen, headOr}
+use Rattle.chosen.specs.Choice.{IsChosen, headOf, firstSome, lookAt, chosenAt, chosen, headOr}
 use Rattle.chosen.proofs.Search.{Sought, seek-is, chosen-one}
-use Rattle.chosen.proofs.Steps.{given-up, chosen-flip, chosen-begins, chosen-exists}
+use Rattle.chosen.proofs.Steps.{chosen-flip, chosen-begins, chosen-exists}
 use Rattle.chosen.proofs.Bound.{chosen-short}
 use Rattle.chosen.specs.Rounds.{Stage}
 
@@ -86,24 +85,7 @@ module _ {E : Events} {M : Machine} (s : Sound E M) (z : Light E) {q p : ℕ} (h
         | inr h ↦ (let k : _≡_ {A = ℕ} 0 1 = cc (e, h) in omega arith)
       ])
 
-  -- What is given up: the marks differ after the run, and agree after every run with more counted events.
-  pub chosen-given-up : (w : List ℕ) → chosen E M q p ≡ some w
-      → Run E w × (¬ SameAfter M q p w) × ((v : List ℕ) → Run E v → size E w < size E v → SameAfter M q p v)
-  chosen-given-up w e =
-      let x = chosen-is w e in
-      let g = given-up (at-distance (x .distant)) (x .is-chosen) in
-      (x .is-chosen .tells .run, g .0, g .1)
-
--- ---- walking
-
--- The head tells whether the run ends.
-head-end : (w : List ℕ) → headOf w ≡ End → w ≡ []
-head-end [] e = refl
-head-end (a ∷ w) e = let g : _≡_ {A = ℕ} 0 1 = cc in absurd (omega arith)
-
-head-event : (a : ℕ) (w : List ℕ) → headOf w ≡ Event a → (v : List ℕ) × (w ≡ (a ∷ v))
-head-event a [] e = let g : _≡_ {A = ℕ} 0 1 = cc in absurd (omega arith)
-head-event a (b ∷ v) e = (v, cc)
+-- ---- two rows exchanged, and the rest of a run
 
 module _ {E : Events} {M : Machine} (s : Sound E M) (z : Light E) where
   -- The two rows may be exchanged.
@@ -124,26 +106,6 @@ module _ {E : Events} {M : Machine} (s : Sound E M) (z : Light E) where
       let hq′ = s .target-in q a hq ha in
       let hp′ = s .target-in p a hp ha in
       (ha, is-chosen-at s z hq′ hp′ (distance-one E M _ _ _ _ (distance-is s z hq′ hp′) (b .distant)) (b .rest))
-
-  -- A walk by heads: at the end the run is empty;
-  pub walk-end : {q p : ℕ} → q < M .rows → p < M .rows → headOr (chosen E M q p) ≡ End → chosen E M q p ≡ some []
-  walk-end {q} {p} hq hp e = pick (chosen E M q p) e
-    where
-      pick : (y : Option (List ℕ)) → headOr y ≡ End → y ≡ some []
-      pick (some w) e = ap some (head-end w e)
-      pick none e = let g : _≡_ {A = ℕ} 0 1 = cc in absurd (omega arith)
-
-  -- otherwise it is the event in front of the run of the targets.
-  pub walk-step : {q p a : ℕ} → q < M .rows → p < M .rows → headOr (chosen E M q p) ≡ Event a
-      → (a < E .count) × ((v : List ℕ) × (chosen E M q p ≡ some (a ∷ v)) × (chosen E M (M .target q a) (M .target p a) ≡ some v))
-  walk-step {q} {p} {a} hq hp e =
-      let w = pick (chosen E M q p) e in
-      let n = chosen-next hq hp (w .1) in
-      (n .0, (w .0, w .1, n .1))
-    where
-      pick : (y : Option (List ℕ)) → headOr y ≡ Event a → (v : List ℕ) × (y ≡ some (a ∷ v))
-      pick (some w) e = let h = head-event a w e in (h .0, ap some (h .1))
-      pick none e = let g : _≡_ {A = ℕ} 0 1 = cc in absurd (omega arith)
 
   -- What the rounds end with is the head of `chosen`, at every pair.
   module _ (D : ℕ → ℕ → Len) (right : (q p : ℕ) → q < M .rows → p < M .rows → IsDistance E M q p (D q p)) (F : ℕ → ℕ → First) (l : ℕ) (g : Stage E M D F l)

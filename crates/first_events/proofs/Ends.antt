@@ -1,10 +1,10 @@
 -- The first pass over the distances: it ends where round 0 does.
-use mathlib.Core.Path.{_≡_, refl, sym, ap, ap₂, subst, _∙_}
+use mathlib.Core.Path.{_≡_, refl, sym, ap, ap₂, _∙_}
 use mathlib.Core.List.{List}
 use mathlib.Core.Logic.{_⊎_, inl, inr}
 use Prim.Native.Nat.{ℕ, _<_}
 use native.Mathlib.Omega.{arith}
-use Rattle.automata.specs.Runs.{Events, Machine, Light, Len, len, endless, IsDistance}
+use Rattle.automata.specs.Runs.{Events, Machine, Light, Len, len, endless}
 use Rattle.tables.specs.Lengths.{distance}
 use Rattle.tables.proofs.Lengths.{distance-is}
 use Rattle.tables.proofs.Symmetry.{distance-turn, distance-self}

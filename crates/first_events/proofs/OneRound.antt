@@ -1,12 +1,11 @@
 -- One round over the cells of scratch: a pass in which pairs take events, and one that settles them.
 use mathlib.Core.Path.{_≡_, refl, sym, ap, ap₂, subst, _∙_}
 use mathlib.Core.List.{List}
-use mathlib.Core.Logic.{_⊎_, inl, inr}
+use mathlib.Core.Logic.{inl, inr}
 use Prim.Native.Nat.{ℕ, suc, _+_, _-_, _≤_, _<_}
 use native.Mathlib.Omega.{arith}
 use native.Mathlib.Decide.{decLe}
-use lib.ListN.{length}
-use Rattle.automata.specs.Runs.{Events, Machine, Sound, Light, Len, len, endless, IsDistance}
+use Rattle.automata.specs.Runs.{Events, Machine, Light, len, IsDistance}
 use Rattle.tables.specs.Lengths.{distance}
 use Rattle.tables.proofs.Lengths.{distance-is}
 use Rattle.tables.proofs.Symmetry.{distance-turn, distance-self}
@@ -20,15 +19,12 @@ use Rattle.pairs.specs.Pairs.{triangle, pairAt}
 use Rattle.pairs.proofs.Cells.{pair-same}
 use Rattle.pairs.proofs.Pairs.{pair-sym}
 use Rattle.pairs.proofs.Triangle.{triangle-next}
-use Rattle.measures.specs.declared.Measure.{Measure}
-use Rattle.measures.specs.Measures.{settledAt, cellOf, measureIn, saying}
-use Rattle.measures.proofs.Codes.{settled-says, begin-event}
-use Rattle.measures.proofs.Cells.{far-below}
+use Rattle.measures.specs.Measures.{settledAt, cellOf, measureIn}
 use Rattle.first_events.specs.declared.Pass.the-variants.{Takes, Settles}
-use Rattle.first_events.specs.Passes.{led, Ready, Lowest, Taken, Settled, Before, Sweeping}
+use Rattle.first_events.specs.Passes.{led, Ready, Taken, Settled, Before, Sweeping}
 use Rattle.first_events.specs.Rounds.{firstAt, Given, Reached, Complete}
-use Rattle.first_events.proofs.Sweeps.{Moved, sweeping-moved, low-first}
-use Rattle.first_events.proofs.Cells.{first-sym, first-own, any-two, Kind, alone, never, whole, len-one, no-end, zero-cell, event-cell, kinds, says, ready-to, ready-from}
+use Rattle.first_events.proofs.Sweeps.{sweeping-moved, low-first}
+use Rattle.first_events.proofs.Cells.{first-sym, first-own, any-two, Kind, alone, never, whole, len-one, no-end, zero-cell, event-cell, kinds, ready-to, ready-from}
 
 module _ {E : Events} {M : Machine} {s : List ℕ} (g : Given E M s) (z : Light E) {l : ℕ} (r : Reached E M l s) where
   right : (q p : ℕ) → q < M .rows → p < M .rows → IsDistance E M q p (distance E M q p)

@@ -2,13 +2,12 @@
 use mathlib.Core.Path.{_≡_, refl, sym, ap, subst, _∙_}
 use mathlib.Core.Bool.{Bool, true, false, not, true≢false, false≢true}
 use mathlib.Core.List.{List}
-use Prim.Native.Nat.{ℕ, suc, _+_, _-_, _≤_, _<_}
+use Prim.Native.Nat.{ℕ, _+_, _-_, _≤_, _<_}
 use native.Mathlib.Omega.{arith}
 use borrow.Author.Tests.{not-true, not-false}
-use lib.ListN.{length, getD, drop}
+use lib.ListN.{length, drop}
 use Rattle.automata.specs.Runs.{Events, Machine, Sound, Light}
 use Rattle.tables.specs.Lists.{over}
-use Rattle.tables.specs.Lengths.{distance}
 use Rattle.tables.specs.Table.{Table, machine, eventsOf, weightBy}
 use Rattle.tables.proofs.Counted.{mask-light}
 use Rattle.tables.proofs.Symmetry.{distance-same}

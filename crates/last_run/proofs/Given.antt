@@ -1,9 +1,8 @@
 -- What the cells of scratch tell of a row is what it gives up.
-use mathlib.Core.Path.{_≡_, refl, sym, ap, ap₂, subst, _∙_}
+use mathlib.Core.Path.{_≡_, refl, sym, ap, ap₂, _∙_}
 use mathlib.Core.Bool.{Bool, true, false, not, cond}
 use mathlib.Core.List.{List}
 use Prim.Native.Nat.{ℕ, _+_, _<_}
-use native.Mathlib.Omega.{arith}
 use lib.Dec.{eqb}
 use lib.ListN.{length, getD}
 use Rattle.automata.specs.Runs.{Events, Machine, Len, len, endless}
@@ -11,10 +10,9 @@ use Rattle.tables.specs.Lengths.{distance, lead, isZero, reached}
 use Rattle.tables.specs.Reduction.{fold}
 use Rattle.tables.specs.Table.{Table, Offset, Valid, machine, eventsOf, weightBy}
 use Rattle.tables.proofs.Counted.{mask-light}
-use Rattle.pairs.specs.Pairs.{pairAt, leadAt, foldsAt, workable}
+use Rattle.pairs.specs.Pairs.{pairAt, foldsAt, workable}
 use Rattle.pairs.proofs.Works.{workable-shape, workable-sound}
 use Rattle.scratch.specs.Scratch.{lenCell}
-use Rattle.chosen.specs.Choice.{chosen, headOr, runOr}
 use Rattle.chosen.specs.GivenUp.{Loss, givenUp, intoOf}
 use Rattle.chosen.proofs.GivenUp.{into-is, into-near, given-into}
 use Rattle.measures.specs.declared.Measure.{Measure}

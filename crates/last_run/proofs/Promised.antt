@@ -1,15 +1,14 @@
 -- The promise, from what the code's parts ensure.
-use mathlib.Core.Path.{_≡_, refl, sym, ap, ap₂, subst, _∙_}
+use mathlib.Core.Path.{_≡_, refl, sym, ap, subst, _∙_}
 use mathlib.Core.List.{List}
 use Prim.Native.Nat.{ℕ, _+_, _≤_, _<_}
 use native.Mathlib.Omega.{arith}
 use borrow.Author.Tests.{ltb-false}
 use lib.ListN.{length, getD, take, replicate}
 use Rattle.tables.specs.Lists.{over}
-use Rattle.tables.specs.Table.{Table, Offset, Valid, machine, eventsOf, weightBy}
-use Rattle.tables.specs.Reduction.{foldedInto, fateOf}
+use Rattle.tables.specs.Table.{Table, Offset, machine, eventsOf, weightBy}
 use Rattle.tables.proofs.Counted.{mask-light}
-use Rattle.tables.proofs.Over.{over-length, take-over}
+use Rattle.tables.proofs.Over.{take-over}
 use Rattle.rules.specs.Rules.{andThen, leftBy}
 use Rattle.rules.specs.declared.Verdict.{Verdict}
 use Rattle.rules.specs.declared.Verdict.the-variants.{Fine, Refused}
@@ -27,7 +26,7 @@ use Rattle.last_run_rules.proofs.Order.{Ready, fine-ready}
 use Rattle.losses.specs.Losses.{lossAt}
 use Rattle.last_run_rules.specs.declared.Told.{Told}
 use Rattle.last_run_rules.specs.declared.Told.the-variants as told
-use Rattle.last_run.specs.LastRun.{lastOfAll, Promise}
+use Rattle.last_run.specs.LastRun.{Promise}
 use Rattle.last_run.proofs.Given.{loss-told}
 
 no-run : {A : Type 0} {number place far n : ℕ} → told.Refused number place ≡ told.Run far n → A

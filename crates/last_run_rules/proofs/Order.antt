@@ -15,11 +15,11 @@ use Rattle.rules.proofs.Judged.{judged-append, refused-first}
 use Rattle.rules.proofs.Checks.{unbroken, passed}
 use Rattle.rules.proofs.First.{room-kept, both-fine, fine-valid, more-fine, valid-masked}
 use Rattle.rules.proofs.Shape.{fine-shape, valid-shape}
-use Rattle.scratch.specs.Scratch.{scratchCells, workableIn}
+use Rattle.scratch.specs.Scratch.{scratchCells}
 use Rattle.scratch.proofs.Works.{valid-within}
 use Rattle.pairs.specs.Pairs.{needed, workable}
 use Rattle.pairs.proofs.Triangle.{needed-value}
-use Rattle.last_run_rules.specs.Checks.{restChecks, rowChecks, verdict}
+use Rattle.last_run_rules.specs.Checks.{restChecks, verdict}
 
 row-broken : (rows row : ℕ) → rows ≤ row → rowRule rows row ≡ Refused 4 0
 row-broken rows row h = rw (le-leb rows row h)

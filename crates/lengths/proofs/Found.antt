@@ -14,7 +14,6 @@ use Rattle.tables.proofs.Lengths.{distance-below, lead-below}
 use Rattle.pairs.specs.Pairs.{triangle, pairAt, workable}
 use Rattle.pairs.proofs.Pairs.{pair-lift}
 use Rattle.pairs.proofs.Works.{workable-fine}
-use Rattle.chosen.specs.Choice.{chosen, headOr}
 use Rattle.measures.specs.declared.Measure.{Measure}
 use Rattle.measures.specs.Measures.{measureIn}
 use Rattle.first_events.specs.FirstEvents.{told}
@@ -78,9 +77,6 @@ module _ (mask : ℕ) (T : Table) (s d : List ℕ) (r : Bool) (test : r ≡ work
   finds e h = (sym (sym test ∙ not-false r e), h ∙ ap (plumbed mask T) found)
 
 -- ---- what is read back
-pub first-held : {E : Events} {M : Machine} {s : List ℕ} → Holds E M s → (q p : ℕ) → q < M .rows → p < M .rows → measureIn (pairAt s q p) .first ≡ headOr (chosen E M q p)
-first-held holds q p hq hp = ap (λ (m : Measure). m .first) (holds .pairs-hold q p hq hp)
-
 module _ {E : Events} {M : Machine} {s : List ℕ} (small : M .rows ≤ 1024) (holds : Holds E M s) where
   pub distance-held : (q p : ℕ) → q < M .rows → p < M .rows → lenOf (measureIn (pairAt s q p) .distance) ≡ distance E M q p
   distance-held q p hq hp =

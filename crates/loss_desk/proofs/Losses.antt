@@ -1,6 +1,6 @@
 -- The lines that the cells of scratch tell are those of the table.
-use mathlib.Core.Path.{_≡_, refl, sym, ap, ap₂, subst, _∙_}
-use mathlib.Core.Bool.{Bool, true, false, cond}
+use mathlib.Core.Path.{_≡_, refl, sym, ap, ap₂, _∙_}
+use mathlib.Core.Bool.{true, false, cond}
 use mathlib.Core.List.{List, []}
 use Prim.Native.Nat.{ℕ, _≤_, _<_}
 use native.Mathlib.Omega.{arith}
@@ -28,7 +28,7 @@ use Rattle.lines.specs.Lines.{refusalLine}
 use Rattle.image_text.specs.ImageText.{textBy, maskedText}
 use Rattle.last_run_rules.specs.Checks.{verdict}
 use Rattle.last_run_rules.proofs.Order.{by-mask}
-use Rattle.losses.specs.Losses.{intoAt, lossTo, lossAt}
+use Rattle.losses.specs.Losses.{intoAt, lossAt}
 use Rattle.loss_text.specs.LossText.{lossLine}
 use Rattle.last_run.proofs.Given.{into-told, loss-told}
 use Rattle.loss_desk.specs.Lines.{lineTo, lineAt}

@@ -1,9 +1,9 @@
 -- What `given_up` prints is shorter than its buffer, whatever it reads.
-use mathlib.Core.Path.{_≡_, ap, subst}
-use mathlib.Core.List.{List, []}
-use Prim.Native.Nat.{ℕ, _+_, _*_, _≤_, _<_, min}
+use mathlib.Core.Path.{_≡_, subst}
+use mathlib.Core.List.{List}
+use Prim.Native.Nat.{ℕ, _≤_, _<_, min}
 use native.Mathlib.Omega.{arith}
-use lib.ListN.{length, getD}
+use lib.ListN.{length}
 use Rattle.automata.specs.Runs.{Events, Machine, len}
 use Rattle.tables.specs.Table.{Table, Offset, machine, eventsOf, weightBy}
 use Rattle.tables.specs.Reduction.{Fate, keptAs, foldedInto, unreached, Record, fateOf, records}

@@ -3,13 +3,12 @@ use mathlib.Core.Path.{_≡_, refl, sym, ap, ap₂, subst, _∙_}
 use mathlib.Core.List.{List, [], _∷_}
 use mathlib.Core.Logic.{_⊎_, inl, inr}
 use mathlib.Core.Option.{Option, some, none}
-use Prim.Native.Nat.{ℕ, _+_, _≤_, _<_}
+use Prim.Native.Nat.{ℕ, _≤_, _<_}
 use native.Mathlib.Omega.{arith}
 use Rattle.automata.specs.Runs.{Events, Machine, Sound, Light, Len, len, endless}
 use Rattle.tables.specs.Lengths.{distance}
 use Rattle.tables.proofs.Lengths.{Below, distance-below}
 use Rattle.tables.proofs.Symmetry.{distance-turn, distance-self, distance-same}
-use Rattle.chosen.specs.declared.First.{First}
 use Rattle.chosen.specs.declared.First.the-variants.{Unsettled}
 use Rattle.chosen.specs.Choice.{IsChosen, headOf, chosen, headOr}
 use Rattle.chosen.proofs.Theorems.{Is, chosen-is, chosen-none, none-chosen, chosen-flipped}

@@ -1,15 +1,13 @@
 -- A run is followed event by event.
-use mathlib.Core.Path.{_≡_, refl, sym, ap, ap₂, subst, _∙_}
+use mathlib.Core.Path.{_≡_, refl, sym, ap, ap₂, _∙_}
 use mathlib.Core.List.{List, [], _∷_, _++_, append-assoc, append-nil}
-use mathlib.Core.Logic.{_⊎_, inl, inr}
+use mathlib.Core.Logic.{inl, inr}
 use Prim.Native.Nat.{ℕ, zero, suc, _+_, _-_, _*_, _%_, _≤_, _<_}
 use native.Mathlib.Omega.{arith}
 use native.Mathlib.Nat.{mod-lt}
 use borrow.Author.Tests.{eq-eqb, ne-eqb}
 use lib.ListN.{length, getD, length-append}
 use Rattle.row_starts.specs.RowStarts.{rowStarts}
-use Rattle.chosen.specs.declared.First.{First}
-use Rattle.chosen.specs.declared.First.the-variants.{Unsettled, End, Event}
 use Rattle.pairs.specs.Pairs.{startIn, pairFrom, pairAt}
 use Rattle.scratch.proofs.Numbers.{lt-or-ge, eq-or-ne}
 use Rattle.measures.specs.declared.Measure.{Measure}
@@ -17,7 +15,7 @@ use Rattle.measures.specs.Measures.{measureIn, beginIn}
 use Rattle.measures.proofs.Codes.{begin-end, begin-event, read-low, read-endless, read-settled}
 use Rattle.measures.proofs.Cells.{measure-read}
 use Rattle.text.specs.Text.{filled, Puts}
-use Rattle.text.proofs.Buffer.{puts-then, puts-none, puts-all, puts-as}
+use Rattle.text.proofs.Buffer.{puts-then, puts-none, puts-all}
 use Rattle.walks.specs.Walks.{numberOf, nextAt, walked}
 
 -- ---- the next event

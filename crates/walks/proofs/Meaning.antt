@@ -2,13 +2,11 @@
 use mathlib.Core.Path.{_≡_, refl, sym, ap, _∙_}
 use mathlib.Core.List.{List, [], _∷_}
 use mathlib.Core.Option.{Option, some, none}
-use Prim.Native.Nat.{ℕ, zero, suc, _+_, _≤_, _<_}
+use Prim.Native.Nat.{ℕ, zero, suc, _≤_, _<_}
 use native.Mathlib.Omega.{arith}
 use lib.ListN.{length}
 use Rattle.automata.specs.Runs.{Sound, Light}
 use Rattle.tables.specs.Table.{Table, machine, eventsOf}
-use Rattle.chosen.specs.declared.First.{First}
-use Rattle.chosen.specs.declared.First.the-variants.{Unsettled, End, Event}
 use Rattle.chosen.specs.Choice.{chosen, headOr, runOr}
 use Rattle.chosen.proofs.Theorems.{chosen-is, chosen-next}
 use Rattle.pairs.specs.Pairs.{pairAt}

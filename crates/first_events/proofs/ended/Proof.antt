@@ -1,7 +1,6 @@
 use mathlib.Core.Path.{_≡_, ap, _∙_}
 use mathlib.Core.List.{List}
 use Prim.Native.Nat.{ℕ}
-use native.Mathlib.Omega.{arith}
 use Rattle.tables.specs.Table.{markOf}
 use Rattle.pairs.specs.Pairs.{pairAt}
 use Rattle.distances.specs.Search.{eventsBy, machineBy}
