@@ -245,9 +245,9 @@ pub extern "C" fn gelfost_last_run(
         (now (answer .exit) ≡ ofTold a)
         × PromiseOfRun v g k mask T row bytes s a (now (run .exit)) (now (scratch .exit))) ⌝ }
 {
-    let k = answers::offset_of(offset);
+    let from = answers::offset_of(offset);
     let told = last_run::last_run(
-        k,
+        from,
         mask,
         rows,
         events,
