@@ -110,10 +110,10 @@ module _ {E : Events} {M N : Machine} (s : Sound E M) (t : Sound E N) where
   right-after [] q p hw e = e
   right-after (a ∷ w) q p hw e = right-after w (beside M N .target q a) (N .target p a) (hw .1) (right-target q p a e)
 
-  left-mark : (w : List ℕ) (q : ℕ) → Run E w → q < M .rows → beside M N .mark (after (beside M N) q w) ≡ M .mark (after M q w)
+  pub left-mark : (w : List ℕ) (q : ℕ) → Run E w → q < M .rows → beside M N .mark (after (beside M N) q w) ≡ M .mark (after M q w)
   left-mark w q hw h = ap (beside M N .mark) (left-after w q hw h) ∙ rw (lt-ltb (after M q w) (M .rows) (after-in s w q hw h))
 
-  right-mark : (w : List ℕ) (q p : ℕ) → Run E w → q ≡ M .rows + p → beside M N .mark (after (beside M N) q w) ≡ N .mark (after N p w)
+  pub right-mark : (w : List ℕ) (q p : ℕ) → Run E w → q ≡ M .rows + p → beside M N .mark (after (beside M N) q w) ≡ N .mark (after N p w)
   right-mark w q p hw e =
       let r : ℕ = M .rows + after N p w in
       let g : r - M .rows ≡ after N p w = omega arith in

@@ -1,0 +1,7 @@
+pub mod Runs
+pub mod Search
+pub mod Compared
+pub mod Theorems
+pub mod Cases
+pub mod Found
+pub mod Pairs
