@@ -12,7 +12,7 @@ use Rattle.rules.specs.declared.Verdict.{Verdict}
 use Rattle.rules.specs.declared.Verdict.the-variants.{Fine, Refused}
 use Rattle.rules.proofs.Checks.{unbroken, passed}
 use Rattle.rules.proofs.First.{room-broken, room-kept, table-refused, table-then, more-fine, fine-valid}
-use Rattle.order_rules.specs.Checks.{pairCells, countsRule, bothChecks, verdict}
+use Rattle.order_rules.specs.Checks.{pairCells, bothChecks, verdict, Ready}
 
 -- ---- rules 19 and 7
 module _ (rows events rows2 events2 room : ℕ) where
@@ -46,13 +46,6 @@ module _ (T U : Table) (room : ℕ) {L : Limits} {v : Verdict} (l : L ≡ winch)
   pub first-fine : v ≡ Fine → {u : Verdict} → u ≡ judged (tableChecks winch U ++ bothChecks (T .rows) (T .events) (U .rows) (U .events) room) → u ≡ verdict T U room
   unfolding verdict
   first-fine h = fine-then T rest l e h
-
--- No rule broken: both tables are valid, over the same number of events, and the scratch has a cell for every pair of their rows.
-pub record Ready (T U : Table) (room : ℕ) : Type 0 where
-  pub first : Valid T
-  pub second : Valid U
-  pub same-events : U .events ≡ T .events
-  pub fits : pairCells (T .rows) (U .rows) ≤ room
 
 -- Mark bytes are bytes, as the code's types say.
 pub fine-ready : (T U : Table) (room : ℕ) → verdict T U room ≡ Fine → ((i : ℕ) → getD (T .marks) i 0 < 256) → ((i : ℕ) → getD (U .marks) i 0 < 256) → Ready T U room

@@ -1,9 +1,10 @@
 -- Which rules are judged before two tables are put in order, in which order, and the answer.
+use mathlib.Core.Path.{_≡_}
 use mathlib.Core.Bool.{not}
 use mathlib.Core.List.{List, [], _∷_, _++_}
-use Prim.Native.Nat.{ℕ, _*_}
+use Prim.Native.Nat.{ℕ, _*_, _≤_}
 use lib.Dec.{eqb}
-use Rattle.tables.specs.Table.{Table}
+use Rattle.tables.specs.Table.{Table, Valid}
 use Rattle.rules.specs.Rules.{rule, judged, winch, roomRule, tableChecks}
 use Rattle.rules.specs.declared.Verdict.{Verdict}
 use Rattle.rules.specs.declared.Verdict.the-variants.{Fine, Refused}
@@ -34,3 +35,10 @@ answerBy Fine order.First = ordered.First
 answerBy Fine order.Equal = ordered.Equal
 answerBy Fine order.Second = ordered.Second
 answerBy (Refused number place) x = ordered.Refused number place
+
+-- No rule broken: both tables are valid, over the same number of events, and the scratch has a cell for every pair of their rows.
+pub record Ready (T U : Table) (room : ℕ) : Type 0 where
+  pub first : Valid T
+  pub second : Valid U
+  pub same-events : U .events ≡ T .events
+  pub fits : pairCells (T .rows) (U .rows) ≤ room

@@ -30,6 +30,19 @@ found-some (suc c) f a h n = pick (firstFound c f) (last-or-less a c h) (λ l. f
     pick zero (inl e) ih g = n (ap f e ∙ g)
     pick zero (inr l) ih g = ih l refl
 
+pub found-at : (c : ℕ) (f : ℕ → ℕ) (a : ℕ) → a < c → ((b : ℕ) → b < a → f b ≡ 0) → ¬ (f a ≡ 0) → firstFound c f ≡ f a
+unfolding firstFound
+found-at zero f a h low n = absurd (omega arith)
+found-at (suc c) f a h low n = pick (last-or-less a c h) (λ l. found-at c f a l low n)
+  where
+    on : (x y z : ℕ) → x ≡ z → ¬ (z ≡ 0) → nonzero x y ≡ z
+    on zero y z e t = absurd (t (sym e))
+    on (suc x) y z e t = e
+
+    pick : (a ≡ c) ⊎ (a < c) → (a < c → firstFound c f ≡ f a) → nonzero (firstFound c f) (f c) ≡ f a
+    pick (inl e) ih = rw (found-none c f (λ b l. low b (omega arith))) (ap f (sym e))
+    pick (inr l) ih = on (firstFound c f) (f c) (f a) (ih l) n
+
 module _ {G : Graph} {start L : ℕ} {level : ℕ → ℕ} (g : Met G start L level) (inside : Inside G) where
   -- Where nothing is told up to a level H, no run that stays within it finds anything.
   found-within : (H : ℕ) → H ≤ L → ((k i : ℕ) → k < G .places → level k ≡ suc i → i ≤ H → G .mark k ≡ 0)

@@ -1,0 +1,6 @@
+pub mod Rows
+pub mod Spreads
+pub mod Meeting
+pub mod Events
+pub mod Levels
+pub mod Settles
