@@ -3,4 +3,6 @@ pub mod Spreads
 pub mod Meeting
 pub mod Events
 pub mod Levels
+pub mod Climbs
 pub mod Settles
+pub mod Answers

@@ -2,7 +2,7 @@
 use mathlib.Core.Path.{_≡_, refl, sym, ap, subst, _∙_}
 use mathlib.Core.List.{List}
 use mathlib.Core.Logic.{_⊎_, inl, inr}
-use Prim.Native.Nat.{ℕ, zero, suc, _+_, _*_, _/_, _%_, _≤_, _<_}
+use Prim.Native.Nat.{ℕ, zero, suc, _+_, _-_, _*_, _/_, _%_, _≤_, _<_}
 use native.Mathlib.Omega.{arith}
 use native.Mathlib.Decide.{ℕ-discrete, decLt}
 use borrow.Author.Tests.{eq-eqb, ne-eqb}
@@ -124,3 +124,18 @@ module _ {G : Graph} {start : ℕ} (hs : start < G .places) (inside : Inside G) 
       here : (k j n : ℕ) → k < G .places → levelAt s k ≡ suc j → j ≡ i → j + n ≡ L → getD t k 0 ≡ 4096 * foundAt G n k + suc j
       here k j zero hk e d f = absurd (omega arith)
       here k j (suc n) hk e d f = told-here k n hk (e ∙ ap suc d) (omega arith) ∙ ap (λ (x : ℕ). 4096 * foundAt G (suc n) k + suc x) (sym d)
+
+-- The same for the level of which the code tells next: from one level to the one before it.
+module _ {G : Graph} {start : ℕ} (hs : start < G .places) (inside : Inside G) where
+  pub told-back : {last level : ℕ} {s t : List ℕ} → 1 < level → level ≤ last → last < 4095 → Told G start (last - 1) (level - 1) s → Settling G (level - 1) (G .places) s t
+      → Told G start (last - 1) (level - 1 - 1) t
+  told-back {last} {level} {s} {t} h l b g w =
+      let e : level - 1 ≡ suc (level - 1 - 1) = omega arith in
+      told-before hs inside (omega arith) (omega arith) (omega arith) (subst (λ (i : ℕ). Told G start (last - 1) i s) e g) (subst (λ (i : ℕ). Settling G i (G .places) s t) e w)
+
+pub settle-framed : {G : Graph} {level : ℕ} {s t : List ℕ} → Settling G level (G .places) s t → Framed G s t
+settle-framed w = record { size = w .size; beyond = w .left }
+
+-- The first level is told last.
+pub told-first : {G : Graph} {start L level : ℕ} {s : List ℕ} → level ≡ 1 → Told G start L (level - 1) s → Told G start L 0 s
+told-first {G} {start} {L} {s} e g = subst (λ (i : ℕ). Told G start L (i - 1) s) e g

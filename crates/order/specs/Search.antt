@@ -79,6 +79,12 @@ module _ (G : Graph) where
   abbrev pub Quiet : ℕ → List ℕ → Type 0
   Quiet L s = (k : ℕ) → k < G .places → levelAt s k ≡ suc L → G .mark k ≡ 0
 
+  -- The search that began on s has met the pairs up to level L, and all is quiet.
+  pub record Climbing (start L : ℕ) (s t : List ℕ) : Type 0 where
+    pub reached : Reached start L t
+    pub quiet : Quiet L t
+    pub framed : Framed G s t
+
   -- Before the search: the cells of pairs are 0, and the marks of the start are equal.
   pub record Bare (start : ℕ) (s : List ℕ) : Type 0 where
     pub start-in : start < G .places

@@ -155,7 +155,7 @@ fn meet_pairs(
         if most == 0 {
             return 0;
         }
-        if most == 2 {
+        if 1 < most {
             return level;
         }
     }

@@ -1,89 +1,68 @@
+use mathlib.Core.Path.{sym, _∙_}
+use Rattle.order.proofs.Answers.{refused, sizes, over-same, answered}
+use native.Mathlib.Omega.{arith}
 use borrow.Author.Needs.{needs}
 use Rattle.order.proofs.compare.Statement.{statement}
 use Rattle.order.proofs.compare.Tie as tie
-use Rattle.order.proofs.compare.Reads as reads
-use Rattle.order.proofs.compare.Lts as lts
-use Rattle.order.proofs.search.Reads as search-reads
-use Rattle.order_rules.proofs.answer.Reads as answer-reads
-use Rattle.order_rules.proofs.check.Reads as check-reads
-use Rattle.row_pairs.proofs.needed.Reads as needed-reads
-use Rattle.scratch.proofs.clear.Reads as clear-reads
 
--- src/lib.rt:354:11
-check-requires : tie.Need-check-requires
-check-requires c κs = search needs
-
--- src/lib.rt:367:26
-enum-known-number : tie.Need-enum-known-number
-enum-known-number c = search needs
-
--- src/lib.rt:370:17
-enum-told : tie.Need-enum-told
-enum-told c = search needs
-
--- src/lib.rt:370:17
 cast-search : tie.Need-cast-search
-cast-search c = ?
+cast-search c =
+    let a = c .before .before .before .before .before .before .before .before .args in
+    omega (arith, sizes (a .rows) (a .events) (a .start) (a .cells .now) (a .marks .now) (a .rows2) (a .events2) (a .start2) (a .cells2 .now) (a .marks2 .now) (a .scratch .now) (sym (c .enum-told .given .1) ∙ c .before .before .check .ensures) (λ i. c .before .before .before .before .before .before .shared-slice-known2 .given i .fits) (λ i. c .before .before .before .before .shared-slice-known4 .given i .fits) .0)
 
--- src/lib.rt:371:17
 cast-search-2 : tie.Need-cast-search-2
-cast-search-2 c = ?
+cast-search-2 c =
+    let a = c .before .before .before .before .before .before .before .before .args in
+    omega (arith, sizes (a .rows) (a .events) (a .start) (a .cells .now) (a .marks .now) (a .rows2) (a .events2) (a .start2) (a .cells2 .now) (a .marks2 .now) (a .scratch .now) (sym (c .enum-told .given .1) ∙ c .before .before .check .ensures) (λ i. c .before .before .before .before .before .before .shared-slice-known2 .given i .fits) (λ i. c .before .before .before .before .shared-slice-known4 .given i .fits) .1)
 
--- src/lib.rt:372:17
 cast-search-3 : tie.Need-cast-search-3
-cast-search-3 c = ?
+cast-search-3 c =
+    let a = c .before .before .before .before .before .before .before .before .args in
+    omega (arith, sizes (a .rows) (a .events) (a .start) (a .cells .now) (a .marks .now) (a .rows2) (a .events2) (a .start2) (a .cells2 .now) (a .marks2 .now) (a .scratch .now) (sym (c .enum-told .given .1) ∙ c .before .before .check .ensures) (λ i. c .before .before .before .before .before .before .shared-slice-known2 .given i .fits) (λ i. c .before .before .before .before .shared-slice-known4 .given i .fits) .2)
 
--- src/lib.rt:375:17
 cast-search-4 : tie.Need-cast-search-4
-cast-search-4 c = ?
+cast-search-4 c =
+    let a = c .before .before .before .before .before .before .before .before .args in
+    omega (arith, sizes (a .rows) (a .events) (a .start) (a .cells .now) (a .marks .now) (a .rows2) (a .events2) (a .start2) (a .cells2 .now) (a .marks2 .now) (a .scratch .now) (sym (c .enum-told .given .1) ∙ c .before .before .check .ensures) (λ i. c .before .before .before .before .before .before .shared-slice-known2 .given i .fits) (λ i. c .before .before .before .before .shared-slice-known4 .given i .fits) .3)
 
--- src/lib.rt:376:17
 cast-search-5 : tie.Need-cast-search-5
-cast-search-5 c = ?
+cast-search-5 c =
+    let a = c .before .before .before .before .before .before .before .before .args in
+    omega (arith, sizes (a .rows) (a .events) (a .start) (a .cells .now) (a .marks .now) (a .rows2) (a .events2) (a .start2) (a .cells2 .now) (a .marks2 .now) (a .scratch .now) (sym (c .enum-told .given .1) ∙ c .before .before .check .ensures) (λ i. c .before .before .before .before .before .before .shared-slice-known2 .given i .fits) (λ i. c .before .before .before .before .shared-slice-known4 .given i .fits) .4)
 
--- src/lib.rt:369:17
 search-requires : tie.Need-search-requires
-search-requires c κs = ?
+search-requires c κs =
+    let a = c .before .before .before .before .before .before .before .before .before .args in
+    over-same (a .rows) (a .events) (a .start) (a .cells .now) (a .marks .now) (a .rows2) (a .events2) (a .start2) (a .cells2 .now) (a .marks2 .now) (a .scratch .now) (sym (c .before .enum-told .given .1) ∙ c .before .before .before .check .ensures) (λ i. c .before .before .before .before .before .before .before .shared-slice-known2 .given i .fits) (λ i. c .before .before .before .before .before .shared-slice-known4 .given i .fits)
 
--- src/lib.rt:384:35
 cast-needed : tie.Need-cast-needed
-cast-needed c = ?
+cast-needed c =
+    let a = c .before .before .before .before .before .before .before .before .before .before .before .before .before .args in
+    omega (arith, sizes (a .rows) (a .events) (a .start) (a .cells .now) (a .marks .now) (a .rows2) (a .events2) (a .start2) (a .cells2 .now) (a .marks2 .now) (a .scratch .now) (sym (c .before .before .before .before .before .enum-told .given .1) ∙ c .before .before .before .before .before .before .before .check .ensures) (λ i. c .before .before .before .before .before .before .before .before .before .before .before .shared-slice-known2 .given i .fits) (λ i. c .before .before .before .before .before .before .before .before .before .shared-slice-known4 .given i .fits) .0)
 
--- src/lib.rt:384:48
 cast-needed-2 : tie.Need-cast-needed-2
-cast-needed-2 c = ?
+cast-needed-2 c =
+    let a = c .before .before .before .before .before .before .before .before .before .before .before .before .before .args in
+    omega (arith, sizes (a .rows) (a .events) (a .start) (a .cells .now) (a .marks .now) (a .rows2) (a .events2) (a .start2) (a .cells2 .now) (a .marks2 .now) (a .scratch .now) (sym (c .before .before .before .before .before .enum-told .given .1) ∙ c .before .before .before .before .before .before .before .check .ensures) (λ i. c .before .before .before .before .before .before .before .before .before .before .before .shared-slice-known2 .given i .fits) (λ i. c .before .before .before .before .before .before .before .before .before .shared-slice-known4 .given i .fits) .3)
 
--- src/lib.rt:384:17
-needed-requires : tie.Need-needed-requires
-needed-requires c κs = search needs
-
--- src/lib.rt:381:13
-clear-requires : tie.Need-clear-requires
-clear-requires c κs = search needs
-
--- src/lib.rt:386:13
-answer-requires : tie.Need-answer-requires
-answer-requires c κs = search needs
-
--- src/lib.rt:336:1
 returns : tie.Need-returns
-returns c = ?
+returns c =
+    let a = c .before .before .before .before .before .before .before .before .before .args in
+    refused (a .rows) (a .events) (a .start) (a .cells .now) (a .marks .now) (a .rows2) (a .events2) (a .start2) (a .cells2 .now) (a .marks2 .now) (a .scratch .now) (c .before .number .given .0 .0) (c .before .number .given .0 .1 .0) (sym (c .before .number .given .1) ∙ c .before .before .before .check .ensures)
 
--- src/lib.rt:336:1
-same-length : tie.Need-same-length
-same-length c = search needs
-
--- src/lib.rt:336:1
 returns-2 : tie.Need-returns-2
-returns-2 c = ?
+returns-2 c =
+    let a = c .before .before .before .before .before .before .before .before .before .before .before .before .before .before .before .before .before .before .args in
+    answered (a .rows) (a .events) (a .start) (a .cells .now) (a .marks .now) (a .rows2) (a .events2) (a .start2) (a .cells2 .now) (a .marks2 .now) (a .scratch .now) (sym (c .before .before .before .before .before .before .before .before .before .before .enum-told .given .1) ∙ c .before .before .before .before .before .before .before .before .before .before .before .before .check .ensures) (λ i. c .before .before .before .before .before .before .before .before .before .before .before .before .before .before .before .before .shared-slice-known2 .given i .fits) (λ i. c .before .before .before .before .before .before .before .before .before .before .before .before .before .before .shared-slice-known4 .given i .fits) (c .before .before .before .before .before .before .before .before .search .ensures) (c .before .before .before .before .needed .ensures) (c .before .before .before .clear .ensures) (c .answer .ensures)
 
 pub compare-spec : {M : Type 1} → statement M
 compare-spec =
     tie.close
+    
     (tie.spec
-    check-requires
-    enum-known-number
-    enum-told
+    (λ c κs. search needs)
+    (λ c. search needs)
+    (λ c. search needs)
     cast-search
     cast-search-2
     cast-search-3
@@ -92,9 +71,9 @@ compare-spec =
     search-requires
     cast-needed
     cast-needed-2
-    needed-requires
-    clear-requires
-    answer-requires
+    (λ c κs. search needs)
+    (λ c κs. search needs)
+    (λ c κs. search needs)
     returns
-    same-length
+    (λ c. search needs)
     returns-2)

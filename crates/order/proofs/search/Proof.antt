@@ -1,88 +1,68 @@
+use Rattle.order.proofs.Answers.{given, at-once, clear-size, bare, sought-size, no-difference, last-in, told-back-to}
+use mathlib.Core.Path.{_≡_}
+use native.Mathlib.Omega.{arith}
 use borrow.Author.Needs.{needs}
 use Rattle.order.proofs.search.Statement.{statement}
 use Rattle.order.proofs.search.Tie as tie
-use Rattle.order.proofs.search.Reads as reads
-use Rattle.order.proofs.search.Lts as lts
-use Rattle.order.proofs.meet_pairs.Reads as meet-pairs-reads
-use Rattle.order.proofs.order_of.Reads as order-of-reads
-use Rattle.order.proofs.tell_back.Reads as tell-back-reads
-use Rattle.row_pairs.proofs.lower.Reads as lower-reads
-use Rattle.row_pairs.proofs.needed.Reads as needed-reads
-use Rattle.row_pairs.proofs.place.Reads as place-reads
-use Rattle.scratch.proofs.cell.Reads as cell-reads
-use Rattle.scratch.proofs.clear.Reads as clear-reads
 
--- src/lib.rt:301:9
-lower-requires : tie.Need-lower-requires
-lower-requires c κs = search needs
-
--- src/lib.rt:303:9
-order-of-requires : tie.Need-order-of-requires
-order-of-requires c κs = search needs
-
--- src/lib.rt:303:9
 returns : tie.Need-returns
-returns c = ?
+returns c =
+    let s = c .before .before .before .before .before .before .before .before in
+    let a = s .args in
+    at-once (a .rows) (a .events) (a .start) (a .cells .now) (a .marks .now) (a .rows2) (a .start2) (a .cells2 .now) (a .marks2 .now) (a .scratch .now) (s .pre) (c .before .before .lower .ensures) (c .before .if1 .taken) (c .order-of .ensures)
 
--- src/lib.rt:305:32
-needed-requires : tie.Need-needed-requires
-needed-requires c κs = search needs
-
--- src/lib.rt:305:5
-clear-requires : tie.Need-clear-requires
-clear-requires c κs = search needs
-
--- src/lib.rt:306:9
-place-requires : tie.Need-place-requires
-place-requires c κs = search needs
-
--- src/lib.rt:307:9
 meet-pairs-requires : tie.Need-meet-pairs-requires
-meet-pairs-requires c κs = ?
+meet-pairs-requires c κs =
+    let s = c .before .before .before .before .before .before .before .before .before .before .before .before .before .before in
+    let a = s .args in
+    let z = clear-size (a .rows) (a .events) (a .start) (a .cells .now) (a .marks .now) (a .rows2) (a .start2) (a .cells2 .now) (a .marks2 .now) (a .scratch .now) (s .pre) (c .before .before .before .before .before .needed .ensures) (c .before .before .before .before .clear .ensures) in
+    (
+      given (a .rows) (a .events) (a .start) (a .cells .now) (a .marks .now) (a .rows2) (a .start2) (a .cells2 .now) (a .marks2 .now) (a .scratch .now) (s .pre) z,
+      (
+        bare (a .rows) (a .events) (a .start) (a .cells .now) (a .marks .now) (a .rows2) (a .start2) (a .cells2 .now) (a .marks2 .now) (a .scratch .now) (s .pre) (c .before .before .before .before .before .needed .ensures) (c .before .before .before .before .clear .ensures) (c .before .before .before .before .before .before .before .before .lower .ensures) (omega (arith, c .before .before .before .before .before .before .before .if1 .left)) (c .before .place .ensures),
+        (s .pre .first .rows-fit, s .pre .second .rows-fit),
+      ),
+    )
 
--- src/lib.rt:319:9
-same-length : tie.Need-same-length
-same-length c = search needs
-
--- src/lib.rt:319:9
 returns-2 : tie.Need-returns-2
-returns-2 c = ?
+returns-2 c =
+    let s = c .before .before .before .before .before .before .before .before .before .before .before .before .before .before .before .before .before .before in
+    let a = s .args in
+    no-difference (a .rows) (a .events) (a .start) (a .cells .now) (a .marks .now) (a .rows2) (a .start2) (a .cells2 .now) (a .marks2 .now) (a .scratch .now) (s .pre) (c .before .before .before .before .before .before .before .before .before .needed .ensures) (c .before .before .before .before .before .before .before .before .clear .ensures) (c .before .before .before .before .before .place .ensures) (c .before .before .before .meet-pairs .ensures) (c .if2 .taken)
 
--- src/lib.rt:321:5
 tell-back-requires : tie.Need-tell-back-requires
-tell-back-requires c κs = ?
+tell-back-requires c κs =
+    let s = c .before .before .before .before .before .before .before .before .before .before .before .before .before .before .before .before .before .before .before in
+    let a = s .args in
+    let w = c .before .before .before .before .meet-pairs .ensures in
+    let z = sought-size (a .rows) (a .events) (a .start) (a .cells .now) (a .marks .now) (a .rows2) (a .start2) (a .cells2 .now) (a .marks2 .now) (a .scratch .now) (s .pre) (c .before .before .before .before .before .before .before .before .before .before .needed .ensures) (c .before .before .before .before .before .before .before .before .before .clear .ensures) (c .before .before .before .before .before .before .place .ensures) w in
+    (
+      given (a .rows) (a .events) (a .start) (a .cells .now) (a .marks .now) (a .rows2) (a .start2) (a .cells2 .now) (a .marks2 .now) (a .scratch .now) (s .pre) z,
+      last-in (a .rows) (a .events) (a .start) (a .cells .now) (a .marks .now) (a .rows2) (a .start2) (a .cells2 .now) (a .marks2 .now) (a .scratch .now) (s .pre) (c .before .before .before .before .before .before .before .before .before .before .needed .ensures) (c .before .before .before .before .before .before .before .before .before .clear .ensures) (c .before .before .before .before .before .before .place .ensures) w (c .before .if2 .left),
+    )
 
--- src/lib.rt:332:14
-cell-requires : tie.Need-cell-requires
-cell-requires c κs = search needs
-
--- src/lib.rt:332:5
-order-of-requires-2 : tie.Need-order-of-requires-2
-order-of-requires-2 c κs = search needs
-
--- src/lib.rt:286:1
-same-length-2 : tie.Need-same-length-2
-same-length-2 c = search needs
-
--- src/lib.rt:286:1
 returns-3 : tie.Need-returns-3
-returns-3 c = ?
+returns-3 c =
+    let s = c .before .before .before .before .before .before .before .before .before .before .before .before .before .before .before .before .before .before .before .before .before .before .before .before .before in
+    let a = s .args in
+    told-back-to (a .rows) (a .events) (a .start) (a .cells .now) (a .marks .now) (a .rows2) (a .start2) (a .cells2 .now) (a .marks2 .now) (a .scratch .now) (s .pre) (c .before .before .before .before .before .before .before .before .before .before .before .before .before .before .before .before .needed .ensures) (c .before .before .before .before .before .before .before .before .before .before .before .before .before .before .before .clear .ensures) (c .before .before .before .before .before .before .before .before .before .before .before .before .place .ensures) (c .before .before .before .before .before .before .before .before .before .before .meet-pairs .ensures) (c .before .before .before .before .before .before .before .if2 .left) (c .before .before .before .before .before .tell-back .ensures) (c .before .cell .ensures) (c .order-of2 .ensures)
 
 pub search-spec : {M : Type 1} → statement M
 search-spec =
     tie.close
+    
     (tie.spec
-    lower-requires
-    order-of-requires
+    (λ c κs. search needs)
+    (λ c κs. search needs)
     returns
-    needed-requires
-    clear-requires
-    place-requires
+    (λ c κs. search needs)
+    (λ c κs. search needs)
+    (λ c κs. search needs)
     meet-pairs-requires
-    same-length
+    (λ c. search needs)
     returns-2
     tell-back-requires
-    cell-requires
-    order-of-requires-2
-    same-length-2
+    (λ c κs. search needs)
+    (λ c κs. search needs)
+    (λ c. search needs)
     returns-3)
