@@ -10,6 +10,8 @@ use Rattle.reduction_rules.specs.declared.Answer.{Answer}
 use Rattle.reduction_rules.specs.declared.Answer.the-variants as reduce
 use Rattle.last_run_rules.specs.declared.Told.{Told}
 use Rattle.last_run_rules.specs.declared.Told.the-variants as told
+use Rattle.order_rules.specs.declared.Ordered.{Ordered}
+use Rattle.order_rules.specs.declared.Ordered.the-variants as order
 use Rattle.image_rules.specs.declared.Written.{Written}
 use Rattle.image_rules.specs.declared.Written.the-variants as write
 use Rattle.image_sections.specs.declared.Read.{Read}
@@ -20,7 +22,7 @@ use Rattle.packs.specs.declared.Unpacked.the-variants as unpack
 abbrev pub four : ℕ → ℕ → ℕ → ℕ → List ℕ
 four a b c d = a ∷ b ∷ c ∷ d ∷ []
 
--- A length, a table's rows, events and start, a number of tables or of rows, a distance and a run's length, or nothing but that all is fine.
+-- A length, a table's rows, events and start, a number of tables or of rows, a distance and a run's length, which of two tables comes first (0 the first, 1 neither, 2 the second), or nothing but that all is fine.
 abbrev pub ofWritten : Written → List ℕ
 ofWritten (write.Length n) = four 0 n 0 0
 ofWritten (write.Refused number place) = four number place 0 0
@@ -40,6 +42,12 @@ ofAnswer (reduce.Refused number place) = four number place 0 0
 abbrev pub ofTold : Told → List ℕ
 ofTold (told.Run far length) = four 0 far length 0
 ofTold (told.Refused number place) = four number place 0 0
+
+abbrev pub ofOrdered : Ordered → List ℕ
+ofOrdered order.First = four 0 0 0 0
+ofOrdered order.Equal = four 0 1 0 0
+ofOrdered order.Second = four 0 2 0 0
+ofOrdered (order.Refused number place) = four number place 0 0
 
 abbrev pub ofVerdict : Verdict → List ℕ
 ofVerdict check.Fine = four 0 0 0 0

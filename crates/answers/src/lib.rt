@@ -1,10 +1,11 @@
 // Answers as four numbers, and offsets as one, for programs in C or Rust.
 ghost use mathlib.Core.Path.{_≡_};
 ghost use Rattle.rules.specs.Rules.{offsetOf};
-ghost use Rattle.answers.specs.Answers.{four, ofWritten, ofRead, ofUnpacked, ofAnswer, ofTold, ofVerdict, offsetIn};
+ghost use Rattle.answers.specs.Answers.{four, ofWritten, ofRead, ofUnpacked, ofAnswer, ofTold, ofOrdered, ofVerdict, offsetIn};
 use image_rules::Written;
 use image_sections::Read;
 use last_run_rules::Told;
+use order_rules::Ordered;
 use packs::Unpacked;
 use reduction_rules::Answer;
 use rules::Offset;
@@ -68,6 +69,17 @@ pub fn put_told(answer: &mut [usize; 4], told: Told)
     match told {
         Told::Run(far, length) => put_four(answer, 0, far, length, 0),
         Told::Refused(number, place) => put_four(answer, number, place, 0, 0),
+    }
+}
+
+pub fn put_ordered(answer: &mut [usize; 4], ordered: Ordered)
+    ensures { λ r. ⌜ now (answer .exit) ≡ ofOrdered ordered ⌝ }
+{
+    match ordered {
+        Ordered::First => put_four(answer, 0, 0, 0, 0),
+        Ordered::Equal => put_four(answer, 0, 1, 0, 0),
+        Ordered::Second => put_four(answer, 0, 2, 0, 0),
+        Ordered::Refused(number, place) => put_four(answer, number, place, 0, 0),
     }
 }
 

@@ -2,10 +2,10 @@
 ghost use mathlib.Core.Path.{_≡_};
 ghost use mathlib.Core.Bool.{true};
 ghost use Prim.Native.Nat.{min};
-ghost use lib.ListN.{length};
+ghost use lib.ListN.{length, replicate};
 ghost use Rattle.tables.specs.Table.{weightBy};
 ghost use Rattle.tables.specs.Reduction.{reduced};
-ghost use Rattle.rules.specs.Rules.{winch, tableOf};
+ghost use Rattle.rules.specs.Rules.{winch, tableOf, leftBy};
 ghost use Rattle.scratch.specs.Scratch.{scratchCells, fewCells};
 ghost use Rattle.reduction_rules.specs.Checks.{verdict, answerBy};
 ghost use Rattle.reduction.specs.Reduce.{Promise};
@@ -17,10 +17,12 @@ ghost use Rattle.image_reader.specs.Read.{readAs, cellsAs, marksIn};
 ghost use Rattle.packs.specs.Pack.{listOf, cellsOf, marksOf};
 ghost use Rattle.pack_writer.specs.Write.{packed, packIn};
 ghost use Rattle.pack_reader.specs.Read.{unpacked, answerOf, leftIn};
-ghost use Rattle.answers.specs.Answers.{ofWritten, ofRead, ofUnpacked, ofAnswer, ofTold, ofVerdict, offsetIn};
+ghost use Rattle.answers.specs.Answers.{ofWritten, ofRead, ofUnpacked, ofAnswer, ofTold, ofOrdered, ofVerdict, offsetIn};
 ghost use Rattle.chosen.specs.GivenUp.{givenUp};
 ghost use Rattle.last_run_rules.specs.Checks.{verdict as verdictOfRow, answerBy as toldBy};
 ghost use Rattle.last_run.specs.LastRun.{lastOfAll, Promise as PromiseOfRun};
+ghost use Rattle.ordering.specs.Order.{comparison};
+ghost use Rattle.order_rules.specs.Checks.{pairCells, verdict as verdictOfBoth, answerBy as orderedBy};
 ghost use Rattle.text.specs.Text.{filled};
 ghost use Rattle.desk.specs.Printed.{printed};
 ghost use Rattle.sheet_desk.specs.Printed.{printed as printedSheet};
@@ -259,4 +261,41 @@ pub extern "C" fn gelfost_last_run(
         scratch,
     );
     answers::put_told(answer, told);
+}
+
+// Which of two tables comes first, as `order::compare` tells it.
+#[no_mangle]
+pub extern "C" fn gelfost_compare(
+    rows: usize,
+    events: usize,
+    start: usize,
+    cells: &[u16],
+    marks: &[u8],
+    rows2: usize,
+    events2: usize,
+    start2: usize,
+    cells2: &[u16],
+    marks2: &[u8],
+    scratch: &mut [u16],
+    answer: &mut [usize; 4],
+)
+    ensures { λ r. ⌜ (let T = tableOf rows events start (now (cells .entry)) (now (marks .entry)) in
+        let U = tableOf rows2 events2 start2 (now (cells2 .entry)) (now (marks2 .entry)) in let s = now (scratch .entry) in let v = verdictOfBoth T U (length s) in
+        (now (answer .exit) ≡ ofOrdered (orderedBy v (comparison T U)))
+        × (now (scratch .exit) ≡ leftBy v s (replicate (pairCells rows rows2) 0))) ⌝ }
+{
+    let ordered = order::compare(
+        rows,
+        events,
+        start,
+        cells,
+        marks,
+        rows2,
+        events2,
+        start2,
+        cells2,
+        marks2,
+        scratch,
+    );
+    answers::put_ordered(answer, ordered);
 }

@@ -150,7 +150,17 @@ fn meet_pairs(
     scratch::put(scratch, start, 1);
     let mut level = 1;
     while level < rows + rows2 {
-        let most = spread(rows, events, cells, marks, rows2, cells2, marks2, scratch, level);
+        let most = spread(
+            rows,
+            events,
+            cells,
+            marks,
+            rows2,
+            cells2,
+            marks2,
+            scratch,
+            level,
+        );
         level += 1;
         if most == 0 {
             return 0;
@@ -265,7 +275,17 @@ fn tell_back(
     let mut level = last;
     while 1 < level {
         level -= 1;
-        settle(rows, events, cells, marks, rows2, cells2, marks2, scratch, level);
+        settle(
+            rows,
+            events,
+            cells,
+            marks,
+            rows2,
+            cells2,
+            marks2,
+            scratch,
+            level,
+        );
     }
 }
 
@@ -366,23 +386,21 @@ pub fn compare(
     ) {
         Verdict::Refused(number, place) => Ordered::Refused(number, place),
         Verdict::Fine => {
+            let n = rows as u16;
+            let m = rows2 as u16;
             let order = search(
-                rows as u16,
+                n,
                 events as u16,
                 start as u16,
                 cells,
                 marks,
-                rows2 as u16,
+                m,
                 start2 as u16,
                 cells2,
                 marks2,
                 scratch,
             );
-            scratch::clear(
-                scratch,
-                0,
-                row_pairs::needed(rows as u16, rows2 as u16),
-            );
+            scratch::clear(scratch, 0, row_pairs::needed(n, m));
             order_rules::answer(order)
         }
     }

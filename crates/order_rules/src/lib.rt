@@ -27,13 +27,7 @@ pub fn answer(order: Order) -> Ordered
 }
 
 // Rules 19 and 7: of both tables.
-fn check_both(
-    rows: u16,
-    events: usize,
-    rows2: u16,
-    events2: usize,
-    room: usize,
-) -> Verdict
+fn check_both(rows: u16, events: usize, rows2: u16, events2: usize, room: usize) -> Verdict
     ensures { λ r. ⌜ r ≡ judged (bothChecks rows events rows2 events2 room) ⌝ }
 {
     if events != events2 {
@@ -59,14 +53,7 @@ fn check_second(
     ensures { λ r. ⌜ (let U = tableOf rows2 events2 start2 (now (cells2 .entry)) (now (marks2 .entry)) in
         r ≡ judged (tableChecks winch U ++ bothChecks rows events rows2 events2 room)) ⌝ }
 {
-    match rules::check_table(
-        rules::winch(),
-        rows2,
-        events2,
-        start2,
-        cells2,
-        marks2,
-    ) {
+    match rules::check_table(rules::winch(), rows2, events2, start2, cells2, marks2) {
         Verdict::Refused(number, place) => Verdict::Refused(number, place),
         Verdict::Fine => check_both(rows, events, rows2 as u16, events2, room),
     }

@@ -5,28 +5,28 @@ use borrow.Author.Needs.{needs}
 use Rattle.order.proofs.compare.Statement.{statement}
 use Rattle.order.proofs.compare.Tie as tie
 
+cast-n : tie.Need-cast-n
+cast-n c =
+    let a = c .before .before .before .before .before .before .before .before .args in
+    omega (arith, sizes (a .rows) (a .events) (a .start) (a .cells .now) (a .marks .now) (a .rows2) (a .events2) (a .start2) (a .cells2 .now) (a .marks2 .now) (a .scratch .now) (sym (c .enum-told .given .1) ∙ c .before .before .check .ensures) (λ i. c .before .before .before .before .before .before .shared-slice-known2 .given i .fits) (λ i. c .before .before .before .before .shared-slice-known4 .given i .fits) .0)
+
+cast-m : tie.Need-cast-m
+cast-m c =
+    let a = c .before .before .before .before .before .before .before .before .args in
+    omega (arith, sizes (a .rows) (a .events) (a .start) (a .cells .now) (a .marks .now) (a .rows2) (a .events2) (a .start2) (a .cells2 .now) (a .marks2 .now) (a .scratch .now) (sym (c .enum-told .given .1) ∙ c .before .before .check .ensures) (λ i. c .before .before .before .before .before .before .shared-slice-known2 .given i .fits) (λ i. c .before .before .before .before .shared-slice-known4 .given i .fits) .3)
+
 cast-search : tie.Need-cast-search
 cast-search c =
     let a = c .before .before .before .before .before .before .before .before .args in
-    omega (arith, sizes (a .rows) (a .events) (a .start) (a .cells .now) (a .marks .now) (a .rows2) (a .events2) (a .start2) (a .cells2 .now) (a .marks2 .now) (a .scratch .now) (sym (c .enum-told .given .1) ∙ c .before .before .check .ensures) (λ i. c .before .before .before .before .before .before .shared-slice-known2 .given i .fits) (λ i. c .before .before .before .before .shared-slice-known4 .given i .fits) .0)
+    omega (arith, sizes (a .rows) (a .events) (a .start) (a .cells .now) (a .marks .now) (a .rows2) (a .events2) (a .start2) (a .cells2 .now) (a .marks2 .now) (a .scratch .now) (sym (c .enum-told .given .1) ∙ c .before .before .check .ensures) (λ i. c .before .before .before .before .before .before .shared-slice-known2 .given i .fits) (λ i. c .before .before .before .before .shared-slice-known4 .given i .fits) .1)
 
 cast-search-2 : tie.Need-cast-search-2
 cast-search-2 c =
     let a = c .before .before .before .before .before .before .before .before .args in
-    omega (arith, sizes (a .rows) (a .events) (a .start) (a .cells .now) (a .marks .now) (a .rows2) (a .events2) (a .start2) (a .cells2 .now) (a .marks2 .now) (a .scratch .now) (sym (c .enum-told .given .1) ∙ c .before .before .check .ensures) (λ i. c .before .before .before .before .before .before .shared-slice-known2 .given i .fits) (λ i. c .before .before .before .before .shared-slice-known4 .given i .fits) .1)
+    omega (arith, sizes (a .rows) (a .events) (a .start) (a .cells .now) (a .marks .now) (a .rows2) (a .events2) (a .start2) (a .cells2 .now) (a .marks2 .now) (a .scratch .now) (sym (c .enum-told .given .1) ∙ c .before .before .check .ensures) (λ i. c .before .before .before .before .before .before .shared-slice-known2 .given i .fits) (λ i. c .before .before .before .before .shared-slice-known4 .given i .fits) .2)
 
 cast-search-3 : tie.Need-cast-search-3
 cast-search-3 c =
-    let a = c .before .before .before .before .before .before .before .before .args in
-    omega (arith, sizes (a .rows) (a .events) (a .start) (a .cells .now) (a .marks .now) (a .rows2) (a .events2) (a .start2) (a .cells2 .now) (a .marks2 .now) (a .scratch .now) (sym (c .enum-told .given .1) ∙ c .before .before .check .ensures) (λ i. c .before .before .before .before .before .before .shared-slice-known2 .given i .fits) (λ i. c .before .before .before .before .shared-slice-known4 .given i .fits) .2)
-
-cast-search-4 : tie.Need-cast-search-4
-cast-search-4 c =
-    let a = c .before .before .before .before .before .before .before .before .args in
-    omega (arith, sizes (a .rows) (a .events) (a .start) (a .cells .now) (a .marks .now) (a .rows2) (a .events2) (a .start2) (a .cells2 .now) (a .marks2 .now) (a .scratch .now) (sym (c .enum-told .given .1) ∙ c .before .before .check .ensures) (λ i. c .before .before .before .before .before .before .shared-slice-known2 .given i .fits) (λ i. c .before .before .before .before .shared-slice-known4 .given i .fits) .3)
-
-cast-search-5 : tie.Need-cast-search-5
-cast-search-5 c =
     let a = c .before .before .before .before .before .before .before .before .args in
     omega (arith, sizes (a .rows) (a .events) (a .start) (a .cells .now) (a .marks .now) (a .rows2) (a .events2) (a .start2) (a .cells2 .now) (a .marks2 .now) (a .scratch .now) (sym (c .enum-told .given .1) ∙ c .before .before .check .ensures) (λ i. c .before .before .before .before .before .before .shared-slice-known2 .given i .fits) (λ i. c .before .before .before .before .shared-slice-known4 .given i .fits) .4)
 
@@ -34,16 +34,6 @@ search-requires : tie.Need-search-requires
 search-requires c κs =
     let a = c .before .before .before .before .before .before .before .before .before .args in
     over-same (a .rows) (a .events) (a .start) (a .cells .now) (a .marks .now) (a .rows2) (a .events2) (a .start2) (a .cells2 .now) (a .marks2 .now) (a .scratch .now) (sym (c .before .enum-told .given .1) ∙ c .before .before .before .check .ensures) (λ i. c .before .before .before .before .before .before .before .shared-slice-known2 .given i .fits) (λ i. c .before .before .before .before .before .shared-slice-known4 .given i .fits)
-
-cast-needed : tie.Need-cast-needed
-cast-needed c =
-    let a = c .before .before .before .before .before .before .before .before .before .before .before .before .before .args in
-    omega (arith, sizes (a .rows) (a .events) (a .start) (a .cells .now) (a .marks .now) (a .rows2) (a .events2) (a .start2) (a .cells2 .now) (a .marks2 .now) (a .scratch .now) (sym (c .before .before .before .before .before .enum-told .given .1) ∙ c .before .before .before .before .before .before .before .check .ensures) (λ i. c .before .before .before .before .before .before .before .before .before .before .before .shared-slice-known2 .given i .fits) (λ i. c .before .before .before .before .before .before .before .before .before .shared-slice-known4 .given i .fits) .0)
-
-cast-needed-2 : tie.Need-cast-needed-2
-cast-needed-2 c =
-    let a = c .before .before .before .before .before .before .before .before .before .before .before .before .before .args in
-    omega (arith, sizes (a .rows) (a .events) (a .start) (a .cells .now) (a .marks .now) (a .rows2) (a .events2) (a .start2) (a .cells2 .now) (a .marks2 .now) (a .scratch .now) (sym (c .before .before .before .before .before .enum-told .given .1) ∙ c .before .before .before .before .before .before .before .check .ensures) (λ i. c .before .before .before .before .before .before .before .before .before .before .before .shared-slice-known2 .given i .fits) (λ i. c .before .before .before .before .before .before .before .before .before .shared-slice-known4 .given i .fits) .3)
 
 returns : tie.Need-returns
 returns c =
@@ -58,19 +48,16 @@ returns-2 c =
 pub compare-spec : {M : Type 1} → statement M
 compare-spec =
     tie.close
-    
     (tie.spec
     (λ c κs. search needs)
     (λ c. search needs)
     (λ c. search needs)
+    cast-n
+    cast-m
     cast-search
     cast-search-2
     cast-search-3
-    cast-search-4
-    cast-search-5
     search-requires
-    cast-needed
-    cast-needed-2
     (λ c κs. search needs)
     (λ c κs. search needs)
     (λ c κs. search needs)

@@ -18,7 +18,7 @@ returns : tie.Need-returns
 returns c = ap (λ n. c .before .args .k / n) (c .wide .ensures)
 
 pub first-of-spec : {M : Type 1} → statement M
-first-of-spec = tie.close 
+first-of-spec = tie.close
     (tie.spec
     (λ c κs. search needs)
     div-result

@@ -42,7 +42,6 @@ returns-2 c =
 pub first-told-spec : {M : Type 1} → statement M
 first-told-spec =
     tie.close
-    
     (tie.spec
     Inv-loop
     μ-loop

@@ -46,7 +46,6 @@ returns-4 c =
 pub meet-spec : {M : Type 1} → statement M
 meet-spec =
     tie.close
-    
     (tie.spec
     (λ c κs. search needs)
     (λ c κs. search needs)

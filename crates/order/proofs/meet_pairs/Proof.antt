@@ -60,7 +60,6 @@ returns-3 c =
 pub meet-pairs-spec : {M : Type 1} → statement M
 meet-pairs-spec =
     tie.close
-    
     (tie.spec
     Inv-loop
     μ-loop

@@ -15,8 +15,7 @@ meet-pairs-requires : tie.Need-meet-pairs-requires
 meet-pairs-requires c κs =
     let s = c .before .before .before .before .before .before .before .before .before .before .before .before .before .before in
     let a = s .args in
-    let z = clear-size (a .rows) (a .events) (a .start) (a .cells .now) (a .marks .now) (a .rows2) (a .start2) (a .cells2 .now) (a .marks2 .now) (a .scratch .now) (s .pre) (c .before .before .before .before .before .needed .ensures) (c .before .before .before .before .clear .ensures) in
-    (
+    let z = clear-size (a .rows) (a .events) (a .start) (a .cells .now) (a .marks .now) (a .rows2) (a .start2) (a .cells2 .now) (a .marks2 .now) (a .scratch .now) (s .pre) (c .before .before .before .before .before .needed .ensures) (c .before .before .before .before .clear .ensures) in (
       given (a .rows) (a .events) (a .start) (a .cells .now) (a .marks .now) (a .rows2) (a .start2) (a .cells2 .now) (a .marks2 .now) (a .scratch .now) (s .pre) z,
       (
         bare (a .rows) (a .events) (a .start) (a .cells .now) (a .marks .now) (a .rows2) (a .start2) (a .cells2 .now) (a .marks2 .now) (a .scratch .now) (s .pre) (c .before .before .before .before .before .needed .ensures) (c .before .before .before .before .clear .ensures) (c .before .before .before .before .before .before .before .before .lower .ensures) (omega (arith, c .before .before .before .before .before .before .before .if1 .left)) (c .before .place .ensures),
@@ -35,8 +34,7 @@ tell-back-requires c κs =
     let s = c .before .before .before .before .before .before .before .before .before .before .before .before .before .before .before .before .before .before .before in
     let a = s .args in
     let w = c .before .before .before .before .meet-pairs .ensures in
-    let z = sought-size (a .rows) (a .events) (a .start) (a .cells .now) (a .marks .now) (a .rows2) (a .start2) (a .cells2 .now) (a .marks2 .now) (a .scratch .now) (s .pre) (c .before .before .before .before .before .before .before .before .before .before .needed .ensures) (c .before .before .before .before .before .before .before .before .before .clear .ensures) (c .before .before .before .before .before .before .place .ensures) w in
-    (
+    let z = sought-size (a .rows) (a .events) (a .start) (a .cells .now) (a .marks .now) (a .rows2) (a .start2) (a .cells2 .now) (a .marks2 .now) (a .scratch .now) (s .pre) (c .before .before .before .before .before .before .before .before .before .before .needed .ensures) (c .before .before .before .before .before .before .before .before .before .clear .ensures) (c .before .before .before .before .before .before .place .ensures) w in (
       given (a .rows) (a .events) (a .start) (a .cells .now) (a .marks .now) (a .rows2) (a .start2) (a .cells2 .now) (a .marks2 .now) (a .scratch .now) (s .pre) z,
       last-in (a .rows) (a .events) (a .start) (a .cells .now) (a .marks .now) (a .rows2) (a .start2) (a .cells2 .now) (a .marks2 .now) (a .scratch .now) (s .pre) (c .before .before .before .before .before .before .before .before .before .before .needed .ensures) (c .before .before .before .before .before .before .before .before .before .clear .ensures) (c .before .before .before .before .before .before .place .ensures) w (c .before .if2 .left),
     )
@@ -50,7 +48,6 @@ returns-3 c =
 pub search-spec : {M : Type 1} → statement M
 search-spec =
     tie.close
-    
     (tie.spec
     (λ c κs. search needs)
     (λ c κs. search needs)

@@ -18,7 +18,7 @@ returns : tie.Need-returns
 returns c = ap (λ n. c .before .args .k % n) (c .wide .ensures)
 
 pub second-of-spec : {M : Type 1} → statement M
-second-of-spec = tie.close 
+second-of-spec = tie.close
     (tie.spec
     (λ c κs. search needs)
     rem-result

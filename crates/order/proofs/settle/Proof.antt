@@ -68,7 +68,6 @@ returns c =
 pub settle-spec : {M : Type 1} → statement M
 settle-spec =
     tie.close
-    
     (tie.spec
     Inv-loop
     μ-loop

@@ -55,7 +55,6 @@ returns c =
 pub spread-spec : {M : Type 1} → statement M
 spread-spec =
     tie.close
-    
     (tie.spec
     Inv-loop
     μ-loop

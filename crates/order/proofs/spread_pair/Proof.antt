@@ -37,7 +37,6 @@ returns c =
 pub spread-pair-spec : {M : Type 1} → statement M
 spread-pair-spec =
     tie.close
-    
     (tie.spec
     Inv-loop
     μ-loop

@@ -38,7 +38,6 @@ returns c =
 pub tell-back-spec : {M : Type 1} → statement M
 tell-back-spec =
     tie.close
-    
     (tie.spec
     Inv-loop
     μ-loop

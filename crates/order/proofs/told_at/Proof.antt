@@ -11,7 +11,7 @@ returns-2 : tie.Need-returns-2
 returns-2 c = (sym (tells-none (c .before .args .level) (c .before .args .cell) (c .if1 .left)), omega arith)
 
 pub told-at-spec : {M : Type 1} → statement M
-told-at-spec = tie.close 
+told-at-spec = tie.close
     (tie.spec
     returns
     returns-2)

@@ -20,7 +20,7 @@ returns-3 c =
     both-kept (a .rows) (a .events) (a .rows2) (a .events2) (a .room) (omega (arith, c .before .before .if1 .left)) (omega (arith, c .if2 .left, c .before .needed .ensures))
 
 pub check-both-spec : {M : Type 1} → statement M
-check-both-spec = tie.close 
+check-both-spec = tie.close
     (tie.spec
     returns
     (λ c κs. search needs)

@@ -26,7 +26,6 @@ returns-2 c =
 pub check-second-spec : {M : Type 1} → statement M
 check-second-spec =
     tie.close
-    
     (tie.spec
     (λ c κs. search needs)
     (λ c κs. search needs)

@@ -24,7 +24,6 @@ returns-3 c =
 pub lower-spec : {M : Type 1} → statement M
 lower-spec =
     tie.close
-    
     (tie.spec
     (λ c κs. search needs)
     (λ c κs. search needs)

@@ -13,7 +13,7 @@ returns : tie.Need-returns
 returns c = ap₂ _*_ (c .before .wide .ensures) (c .wide2 .ensures)
 
 pub needed-spec : {M : Type 1} → statement M
-needed-spec = tie.close 
+needed-spec = tie.close
     (tie.spec
     (λ c κs. search needs)
     (λ c κs. search needs)

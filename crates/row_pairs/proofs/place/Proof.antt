@@ -10,7 +10,7 @@ add-result c =
     omega (arith, c .before .needed .ensures, product-bound (a .q) (a .rows2) (omega arith) (omega arith))
 
 pub place-spec : {M : Type 1} → statement M
-place-spec = tie.close 
+place-spec = tie.close
     (tie.spec
     (λ c κs. search needs)
     (λ c κs. search needs)
