@@ -2,8 +2,8 @@
 //! given and lent, what it leaves, and the comparison with the own reading.
 
 use crate::judge::hexadecimal;
-use crate::radio::{Answer, Functions, Own};
-use crate::table::Table;
+use crate::radio::{Answer, Functions, Given, Own};
+use crate::table::{Refusal, Table};
 use std::fmt::{Display, Formatter};
 
 /// A table in the numbers of these functions, sound or not.
@@ -35,9 +35,34 @@ impl Numbers {
         Table::new(self.events, self.start, &targets, &marks)
     }
 
+    /// As the own reading takes them.
+    pub fn given(&self) -> Given<'_> {
+        let Numbers { rows, events, start, ref cells, ref marks } = *self;
+        Given { rows, events, start, cells, marks }
+    }
+
+    /// 1 to 6 in number order.
+    pub fn check(&self) -> Result<(), Refusal> {
+        self.given().check()
+    }
+
     /// A radio image's length: the mark bytes, a byte for each target, and 8.
     pub fn image_length(&self) -> usize {
         self.marks.len() + self.cells.len() + 8
+    }
+}
+
+impl Display for Numbers {
+    fn fmt(&self, f: &mut Formatter) -> std::fmt::Result {
+        write!(
+            f,
+            "rows {}, events {}, start {}, cells {}, marks {}",
+            self.rows,
+            self.events,
+            self.start,
+            words(&self.cells),
+            bytes(&self.marks)
+        )
     }
 }
 
@@ -142,15 +167,7 @@ pub fn pack_length(tables: &[Numbers]) -> usize {
 impl Display for Call {
     fn fmt(&self, f: &mut Formatter) -> std::fmt::Result {
         match self {
-            Call::WriteRadio { given: g, out } => write!(
-                f,
-                "write_radio, rows {}, events {}, start {}, cells {}, marks {}, lent {out} bytes",
-                g.rows,
-                g.events,
-                g.start,
-                words(&g.cells),
-                bytes(&g.marks)
-            ),
+            Call::WriteRadio { given, out } => write!(f, "write_radio, {given}, lent {out} bytes"),
             Call::ReadRadio { image, cells, marks } => write!(
                 f,
                 "read_radio, image {}, lent {cells} cells, {marks} mark bytes",
@@ -189,20 +206,31 @@ pub fn words(list: &[u16]) -> String {
 pub fn compare(functions: &dyn Functions, call: &Call) -> Result<Outcome, String> {
     let left = call.by(functions);
     let expected = call.by(&Own);
-    if left.answer != expected.answer {
-        return Err(format!("answered {:?}, expected {:?}: {call}", left.answer, expected.answer));
-    }
-    for (what, place) in [
+    let lent = [
         ("list", first_other(&left.list, &expected.list)),
         ("cells", first_other(&left.cells, &expected.cells)),
         ("marks", first_other(&left.marks, &expected.marks)),
         ("output", first_other(&left.out, &expected.out)),
-    ] {
+    ];
+    as_expected(call, left.answer, expected.answer, &lent).map(|()| left)
+}
+
+/// The answer to a call is the expected one, and no lent buffer has another place.
+pub fn as_expected(
+    call: &dyn Display,
+    answer: Answer,
+    expected: Answer,
+    lent: &[(&str, Option<usize>)],
+) -> Result<(), String> {
+    if answer != expected {
+        return Err(format!("answered {answer:?}, expected {expected:?}: {call}"));
+    }
+    for (what, place) in lent {
         if let Some(place) = place {
             return Err(format!("lent {what} not as expected at {place}: {call}"));
         }
     }
-    Ok(left)
+    Ok(())
 }
 
 /// The first place at which two lists differ.

@@ -34,7 +34,7 @@ pub fn same(program: Program, input: &[u8], expected: &str) -> Result<usize, Str
 
 /// Counts answers by refusal number.
 #[derive(Default)]
-pub struct Answers(Mutex<[usize; 19]>);
+pub struct Answers(Mutex<[usize; 20]>);
 
 impl Answers {
     /// Counts an answer, as of [`same`]; stops at a fault.

@@ -13,14 +13,14 @@
 //! smaller from 18 rows up. Its table, records and refusals equal the first way's; 7
 //! uses the new figure there, and these cells end at 0."
 
-use crate::calls::{bytes, filled_bytes, filled_cells, first_other, words, Numbers};
+use crate::calls::{as_expected, filled_bytes, filled_cells, first_other, Numbers};
 use crate::damage::Answers;
 use crate::levels::Levels;
 use crate::load::load;
 use crate::product::Product;
-use crate::radio::{answer, lay, Answer, Given};
+use crate::radio::{answer, lay, Answer};
 use crate::rules::Study;
-use crate::table::{check_mask, check_size, refuse, Mask, Offset, Refusal, Table};
+use crate::table::{check_mask, refuse, Mask, Offset, Refusal, Table};
 use std::fmt::{Display, Formatter};
 use std::sync::Mutex;
 
@@ -196,14 +196,11 @@ impl Direct for Own {
 
 /// "Reducer and writer check 1 to 7 in number order", with 16 "straight after 6".
 fn check(task: &Task, lent: Lengths) -> Result<Table, Refusal> {
-    let Numbers { rows, events, start, ref cells, ref marks } = task.given;
-    check_size(rows, events)?;
-    let table = Given { rows, events, start, cells, marks };
-    table.check_lengths()?;
-    table.check_contents()?;
-    check_mask(task.mask, events)?;
-    lent.check(Lengths::named(task.way, rows, events))?;
-    Ok(task.given.table())
+    let Task { way, mask, ref given, .. } = *task;
+    given.check()?;
+    check_mask(mask, given.events)?;
+    lent.check(Lengths::named(way, given.rows, given.events))?;
+    Ok(given.table())
 }
 
 /// What lent buffers hold before a call.
@@ -215,9 +212,12 @@ pub enum Fill {
     Zeros,
     /// Bits that are clear must be written.
     Ones,
+    /// Small numbers, such as lengths and rows.
+    Small,
 }
 
 impl Fill {
+    /// All but the last.
     pub const ALL: [Fill; 3] = [Fill::Pattern, Fill::Zeros, Fill::Ones];
 
     pub fn cells(self, length: usize) -> Vec<u16> {
@@ -225,6 +225,7 @@ impl Fill {
             Fill::Pattern => filled_cells(length),
             Fill::Zeros => vec![0; length],
             Fill::Ones => vec![u16::MAX; length],
+            Fill::Small => (0..length).map(|place| 1 + (place % 7) as u16).collect(),
         }
     }
 
@@ -233,6 +234,7 @@ impl Fill {
             Fill::Pattern => filled_bytes(length),
             Fill::Zeros => vec![0; length],
             Fill::Ones => vec![u8::MAX; length],
+            Fill::Small => (0..length).map(|place| 1 + (place % 7) as u8).collect(),
         }
     }
 }
@@ -286,16 +288,9 @@ impl Display for Call {
             Asked::Generate { seed, rows, events } => {
                 write!(f, "generate, seed {seed}, rows {rows}, events {events}")?
             }
-            Asked::Reduce(Task { way, offset, mask, given: g }) => write!(
-                f,
-                "reduce, {way:?} way, offset {offset}, mask {mask:b}, rows {}, events {}, \
-                 start {}, cells {}, marks {}",
-                g.rows,
-                g.events,
-                g.start,
-                words(&g.cells),
-                bytes(&g.marks)
-            )?,
+            Asked::Reduce(Task { way, offset, mask, given }) => {
+                write!(f, "reduce, {way:?} way, offset {offset}, mask {mask:b}, {given}")?
+            }
         }
         write!(f, ", lent {:?} filled with {:?}", self.lent, self.fill)
     }
@@ -306,19 +301,12 @@ impl Display for Call {
 pub fn compare(functions: &dyn Direct, own: &Own, call: &Call) -> Result<Left, String> {
     let left = call.by(functions);
     let expected = call.by(own);
-    if left.answer != expected.answer {
-        return Err(format!("answered {:?}, expected {:?}: {call}", left.answer, expected.answer));
-    }
-    for (what, place) in [
+    let lent = [
         ("cells", first_other(&left.cells, &expected.cells)),
         ("marks", first_other(&left.marks, &expected.marks)),
         ("scratch", first_other(&left.scratch, &expected.scratch)),
-    ] {
-        if let Some(place) = place {
-            return Err(format!("lent {what} not as expected at {place}: {call}"));
-        }
-    }
-    Ok(left)
+    ];
+    as_expected(call, left.answer, expected.answer, &lent).map(|()| left)
 }
 
 /// The comparison, and the very answer as a test knows it. Answers the number of
@@ -382,8 +370,13 @@ fn alike(first: &Left, second: &Left) -> Result<(), &'static str> {
 
 /// Makes calls of the product, stops at a fault, and shows the answers.
 pub fn on_product(what: &str, calls: impl Fn(&dyn Direct, Report)) {
+    count_answers(what, |report| calls(&Product, report));
+}
+
+/// Makes calls, stops at a fault, and shows the answers.
+pub fn count_answers(what: &str, calls: impl Fn(Report)) {
     let answers = Answers::default();
-    calls(&Product, &|answer| answers.count(answer));
+    calls(&|answer| answers.count(answer));
     answers.show(what, "taken");
 }
 

@@ -14,11 +14,11 @@
 //! fold, and a run has at most 126 events (runs.rs), so a line has at most 32 + 3 × 126 bytes,
 //! and a text 127 × 410 = 52,070.
 
-use crate::calls::{bytes, first_other, words, Numbers};
+use crate::calls::{as_expected, first_other, Numbers};
 use crate::direct::{offset_of, Fill, Way};
 use crate::last_run::chosen;
 use crate::levels::Levels;
-use crate::radio::{answer, Answer, Given};
+use crate::radio::{answer, Answer};
 use crate::rules::{refusal_text, Length};
 use crate::runs::Chosen;
 use crate::table::{check_mask, check_size, read_input, refuse, Mask, Offset, Refusal, Table};
@@ -151,9 +151,9 @@ impl GivenUp for Own {
 /// The reducer's checks in its order, 1 to 6, 16 and 7, which is of the scratch alone. The
 /// row is judged with the start, by 4; which of the two is judged first does not show.
 fn check(asked: &Asked, scratch: usize) -> Result<Table, Refusal> {
-    let Numbers { rows, events, start, ref cells, ref marks } = asked.given;
+    let Numbers { rows, events, .. } = asked.given;
+    let table = asked.given.given();
     check_size(rows, events)?;
-    let table = Given { rows, events, start, cells, marks };
     table.check_lengths()?;
     if asked.row >= rows {
         return refuse(4);
@@ -220,19 +220,11 @@ impl Call {
 
 impl Display for Call {
     fn fmt(&self, f: &mut Formatter) -> std::fmt::Result {
-        let Asked { offset, mask, given: g, row } = &self.asked;
+        let Call { asked: Asked { offset, mask, given, row }, run, scratch, fill } = self;
         write!(
             f,
-            "last run, offset {offset}, mask {mask:b}, rows {}, events {}, start {}, cells {}, \
-             marks {}, row {row}, lent {} bytes and {} scratch cells filled with {:?}",
-            g.rows,
-            g.events,
-            g.start,
-            words(&g.cells),
-            bytes(&g.marks),
-            self.run,
-            self.scratch,
-            self.fill
+            "last run, offset {offset}, mask {mask:b}, {given}, row {row}, lent {run} bytes and \
+             {scratch} scratch cells filled with {fill:?}"
         )
     }
 }
@@ -241,16 +233,9 @@ impl Display for Call {
 /// expected. Answers the number of the refusal, 0 where there is none.
 pub fn compare(functions: &dyn GivenUp, call: &Call, expected: &Left) -> Result<usize, String> {
     let left = call.by(functions);
-    if left.answer != expected.answer {
-        return Err(format!("answered {:?}, expected {:?}: {call}", left.answer, expected.answer));
-    }
-    for (what, place) in [
+    let lent = [
         ("run", first_other(&left.run, &expected.run)),
         ("scratch", first_other(&left.scratch, &expected.scratch)),
-    ] {
-        if let Some(place) = place {
-            return Err(format!("lent {what} not as expected at {place}: {call}"));
-        }
-    }
-    Ok(left.answer[0])
+    ];
+    as_expected(call, left.answer, expected.answer, &lent).map(|()| left.answer[0])
 }

@@ -327,7 +327,8 @@ fn few(random: &mut Random, rows: usize) -> Vec<bool> {
     marks
 }
 
-fn only(rows: usize, ready: usize) -> Vec<bool> {
+/// One row is ready.
+pub fn only(rows: usize, ready: usize) -> Vec<bool> {
     (0..rows).map(|row| row == ready).collect()
 }
 

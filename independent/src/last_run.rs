@@ -4,9 +4,8 @@
 //! # Way
 //!
 //! Begun at both rows, runs are followed breadth first, lower events first. So they are met
-//! in the order of choice, shorter ones first, then the lowest; and of those that come to
-//! one pair with as many counted events only the first must be followed, as the others go
-//! on alike.
+//! in the order of choice (breadth.rs); and of those that come to one pair with as many
+//! counted events only the first must be followed.
 //!
 //! Let D be the distance of the two rows. A run with c counted events has come to a pair of
 //! distance d. If it goes on to one that differs and has D − 1 counted events, d is D − c at
@@ -15,6 +14,7 @@
 //! if they count, to d − 1; and then the pair alone says how many events have counted. Where
 //! d is 1 all D − 1 have: there the first pair whose marks differ is the end.
 
+use crate::breadth::first_run;
 use crate::levels::Levels;
 use crate::rules::Length::{self, Of};
 use crate::runs::Chosen;
@@ -30,37 +30,22 @@ pub fn chosen(levels: &Levels, one: usize, other: usize) -> Chosen {
     Chosen { distance, run }
 }
 
-/// A pair that was met: its rows, the place of the one met before it, and the event between.
-struct Met {
-    rows: (usize, usize),
-    before: usize,
-    event: usize,
-}
-
-/// The chosen run of two rows with a finite distance above 0.
+/// The chosen run of two rows with a finite distance above 0. Row p with row q has the number
+/// p × rows + q.
 fn first_met(levels: &Levels, one: usize, other: usize) -> Vec<u8> {
-    let table = &levels.table;
-    let mut seen = vec![false; table.rows * table.rows];
-    let mut list = vec![Met { rows: (one, other), before: 0, event: 0 }];
-    let mut at = 0;
-    loop {
-        let (low, high) = list[at].rows;
-        let distance = levels.distance(low, high);
-        if distance == Of(1) && table.marks[low] != table.marks[high] {
-            return way_to(&list, at);
-        }
-        for event in 0..table.events {
-            let rows = (table.target(low, event), table.target(high, event));
-            let wanted = less(distance, counted(levels.mask, event));
-            if wanted != Of(0) && levels.distance(rows.0, rows.1) == wanted {
-                let seen = &mut seen[rows.0 * table.rows + rows.1];
-                if !std::mem::replace(seen, true) {
-                    list.push(Met { rows, before: at, event });
-                }
-            }
-        }
-        at += 1;
-    }
+    let Levels { table, mask, .. } = levels;
+    let rows = table.rows;
+    let distance = |pair: usize| levels.distance(pair / rows, pair % rows);
+    let onward = |pair: usize, event: usize| {
+        let [one, other] = [pair / rows, pair % rows].map(|row| table.target(row, event));
+        let (next, wanted) = (one * rows + other, less(distance(pair), counted(*mask, event)));
+        (wanted != Of(0) && distance(next) == wanted).then_some(next)
+    };
+    let is_end = |pair: usize| {
+        distance(pair) == Of(1) && table.marks[pair / rows] != table.marks[pair % rows]
+    };
+    first_run(rows * rows, table.events, one * rows + other, onward, is_end)
+        .expect("rows at a finite distance above 0 have a chosen run")
 }
 
 fn less(distance: Length, by: usize) -> Length {
@@ -68,15 +53,4 @@ fn less(distance: Length, by: usize) -> Length {
         Of(length) => Of(length - by),
         Length::Endless => Length::Endless,
     }
-}
-
-/// The events from the first pair to the one at this place.
-fn way_to(list: &[Met], mut at: usize) -> Vec<u8> {
-    let mut run = Vec::new();
-    while at > 0 {
-        run.push(list[at].event as u8);
-        at = list[at].before;
-    }
-    run.reverse();
-    run
 }

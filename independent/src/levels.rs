@@ -176,8 +176,9 @@ fn depths(table: &Table, mask: Mask) -> Vec<Option<Length>> {
     depth
 }
 
-/// These rows and all to which those events lead from them, each once.
-fn grown(table: &Table, rows: Vec<usize>, those: Mask) -> Vec<usize> {
+/// These rows and all to which those events lead from them, each once, as they are met breadth
+/// first, lower events first.
+pub fn grown(table: &Table, rows: Vec<usize>, those: Mask) -> Vec<usize> {
     let mut met = vec![false; table.rows];
     let mut list = rows;
     list.retain(|&row| !std::mem::replace(&mut met[row], true));

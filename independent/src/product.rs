@@ -1,7 +1,9 @@
-//! The product, called through its eleven C functions.
+//! The product, called through its twelve C functions.
 
+use crate::calls::Numbers;
 use crate::direct::{Direct, Task, Way};
 use crate::given_up::{Asked, GivenUp};
+use crate::ordering::Order;
 use crate::radio::{Answer, Functions};
 use std::fmt::Debug;
 use std::sync::{Mutex, MutexGuard};
@@ -119,6 +121,25 @@ extern "C" {
         row: usize,
         run: *mut u8,
         run_len: usize,
+        scratch: *mut u16,
+        scratch_len: usize,
+        answer: *mut usize,
+    );
+    fn gelfost_compare(
+        rows: usize,
+        events: usize,
+        start: usize,
+        cells: *const u16,
+        cells_len: usize,
+        marks: *const u8,
+        marks_len: usize,
+        other_rows: usize,
+        other_events: usize,
+        other_start: usize,
+        other_cells: *const u16,
+        other_cells_len: usize,
+        other_marks: *const u8,
+        other_marks_len: usize,
         scratch: *mut u16,
         scratch_len: usize,
         answer: *mut usize,
@@ -419,6 +440,46 @@ impl GivenUp for Product {
 
     fn text(&self, input: &[u8]) -> Vec<u8> {
         text(gelfost_given_up_text, input)
+    }
+}
+
+impl Order for Product {
+    fn order(&self, tables: &[Numbers; 2], scratch: &mut [u16]) -> Answer {
+        let [one, other] = tables;
+        let (mut c, mut m) = (Guarded::of(&one.cells), Guarded::of(&one.marks));
+        let (mut d, mut n) = (Guarded::of(&other.cells), Guarded::of(&other.marks));
+        let mut s = Guarded::of(scratch);
+        let mut answer = [usize::FILL; 4];
+        let mut a = Guarded::of(&answer);
+        let turn = turn();
+        unsafe {
+            gelfost_compare(
+                one.rows,
+                one.events,
+                one.start,
+                c.pointer(),
+                one.cells.len(),
+                m.pointer(),
+                one.marks.len(),
+                other.rows,
+                other.events,
+                other.start,
+                d.pointer(),
+                other.cells.len(),
+                n.pointer(),
+                other.marks.len(),
+                s.pointer(),
+                scratch.len(),
+                a.pointer(),
+            )
+        }
+        drop(turn);
+        let first = [c.unchanged(&one.cells), m.unchanged(&one.marks)];
+        let second = [d.unchanged(&other.cells), n.unchanged(&other.marks)];
+        let lent = [s.back(scratch), a.back(&mut answer)];
+        let given: [&dyn Debug; 2] = [tables, &scratch.len()];
+        [first, second, lent].into_iter().for_each(|list| held(list, &given));
+        answer
     }
 }
 

@@ -109,6 +109,13 @@ pub struct Given<'a> {
 }
 
 impl Given<'_> {
+    /// 1 to 6 in number order.
+    pub fn check(self) -> Result<(), Refusal> {
+        check_size(self.rows, self.events)?;
+        self.check_lengths()?;
+        self.check_contents()
+    }
+
     /// 3: "the given cells or mark bytes are not the number required".
     pub fn check_lengths(self) -> Result<(), Refusal> {
         let (cells, marks) = (self.rows * self.events, self.rows.div_ceil(8));
@@ -168,9 +175,7 @@ impl Given<'_> {
 
 /// "Reducer and writer check 1 to 7 in number order", with 14 "between 6 and 7".
 fn radio_image(given: Given) -> Result<Vec<u8>, Refusal> {
-    check_size(given.rows, given.events)?;
-    given.check_lengths()?;
-    given.check_contents()?;
+    given.check()?;
     given.check_steps()?;
     let mut bytes = Vec::new();
     given.push_image(&mut bytes);

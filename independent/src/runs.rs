@@ -1,6 +1,6 @@
 //! Brute force with runs: all runs up to a length, one by one, and what they show of the
-//! distance and, request 106, of the chosen run of two rows. Of rules.rs it uses the name
-//! of a length, and only where that is said a distance.
+//! distance and, request 106, of the chosen run of two rows; and, request 107, of two tables.
+//! Of rules.rs it uses the name of a length, and only where that is said a distance.
 //!
 //! "The chosen run differs in mark, has distance − 1 counted events, is the shortest such
 //! in all its events, then the lowest by events." Of a list of runs, shorter ones first and
@@ -35,6 +35,22 @@
 //! ring join one more class each. So the run passes no more pairs of distance d than level d
 //! has classes fewer than level d − 1; and all its pairs are at most rows − 1, as at last one
 //! class is left. Its events are one fewer.
+//!
+//! # Two tables, request 107
+//!
+//! "Two tables over the same number of events are compared by the shortest run after which
+//! their marks differ, lowest events first; the one showing wait comes first." Take the marks
+//! that each shows after the runs of a list as above: the first at which they differ decides,
+//! as in a dictionary, with wait before ready.
+//!
+//! Let two rows, of one table or of both, be of one class at level L if no run of up to L
+//! events tells them apart. They are of one class at level L + 1 if and only if they are at
+//! level L, and every event leads them into one class of level L. So each level follows from
+//! the one before alone: once it has as many classes as that, it is the same, and so are all
+//! after it. Until then each has a class more at least, from one at level 0, and there are no
+//! more classes than rows. So rows that some run tells apart are told apart by one of fewer
+//! events than both tables have rows together. (Of fewer by two: if rows are told apart at
+//! all, level 0 has two classes.)
 
 use crate::rules::{Length, Study};
 use crate::table::{counted, Mask, Table};
@@ -95,6 +111,29 @@ pub fn longest_needed(rows: usize) -> [usize; 2] {
     [(pairs * (pairs + 1)).saturating_sub(1), pairs.saturating_sub(1)]
 }
 
+/// The longest run that is needed to put two tables in order, of so many rows together.
+pub fn longest_for_order(rows: usize) -> usize {
+    rows - 1
+}
+
+/// The marks that a table shows after each run of a list.
+pub fn shown(table: &Table, runs: &[(usize, usize)]) -> Vec<bool> {
+    let ends = along(runs, table.start, |&row, event| table.target(row, event));
+    ends.into_iter().map(|row| table.marks[row]).collect()
+}
+
+/// The events of a run of a list.
+pub fn spelled(runs: &[(usize, usize)], mut run: usize) -> Vec<u8> {
+    let mut events = Vec::new();
+    while run > 0 {
+        let (shorter, event) = runs[run];
+        events.push(event as u8);
+        run = shorter;
+    }
+    events.reverse();
+    events
+}
+
 /// Distance and chosen run of two rows. The run is empty where there is none, at distance
 /// 0 or endless.
 #[derive(Clone, Debug, PartialEq, Eq)]
@@ -143,19 +182,7 @@ impl Followed<'_> {
         let mut runs = 0..self.runs.len();
         let is_it = |run: &usize| lengths[*run] == length - 1 && self.differ(*run, one, other);
         let run = runs.find(is_it).expect("a chosen run is in the list");
-        Chosen { distance, run: self.spelled(run) }
-    }
-
-    /// The events of a run.
-    fn spelled(&self, mut run: usize) -> Vec<u8> {
-        let mut events = Vec::new();
-        while run > 0 {
-            let (shorter, event) = self.runs[run];
-            events.push(event as u8);
-            run = shorter;
-        }
-        events.reverse();
-        events
+        Chosen { distance, run: spelled(self.runs, run) }
     }
 }
 

@@ -58,3 +58,12 @@ pub fn reached_tables(
     });
     tried.value()
 }
+
+/// Of the tables with so many events, for each row count and n each n-th table.
+pub fn every_nth(events: usize, sizes: &[(usize, usize)]) -> Vec<Table> {
+    let tables = |&(rows, n): &(usize, usize)| {
+        let numbers = (0..count_all(rows, events)).step_by(n);
+        numbers.map(move |number| table_number(rows, events, number))
+    };
+    sizes.iter().flat_map(tables).collect()
+}

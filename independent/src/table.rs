@@ -70,6 +70,13 @@ impl Table {
         self.targets[row * self.events + event]
     }
 
+    /// "A table's mark after a run is found so: stand on the start row, go for each event of
+    /// the run in turn to the target of the present row and that event, and take the mark of
+    /// the last row."
+    pub fn mark_after(&self, run: &[u8]) -> bool {
+        self.marks[run.iter().fold(self.start, |row, &event| self.target(row, event as usize))]
+    }
+
     /// The image: marks, targets, start, "each after its count".
     pub fn image(&self) -> Vec<u8> {
         let mut bytes = Vec::new();

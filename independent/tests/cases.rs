@@ -2,16 +2,19 @@
 //! of "Refused, and on what" that `reduce` can show. The expected texts are
 //! written here by hand from the document, not made by rules.rs. So are the sheets
 //! of request 101, the radio images and packs of request 102, the listings with idle
-//! events of request 104, and the distances and runs of request 106.
+//! events of request 104, the distances and runs of request 106, and which table comes
+//! first by request 107.
 
 use independent::calls::{compare, Call, Numbers, Outcome};
 use independent::direct::Fill;
 use independent::given_up::{self, Asked, GivenUp};
+use independent::ordering;
 use independent::product::{reduce_text, sheet_text, Product};
 use independent::radio::Answer;
 use independent::rules::{text_for, Length, Study};
 use independent::sheet;
 use independent::table::{Mask, Table};
+use std::cmp::Ordering;
 
 /// Bytes from hexadecimal words.
 fn bytes(words: &str) -> Vec<u8> {
@@ -837,6 +840,175 @@ fn refusals_of_what_is_given_up() {
         assert_eq!(call.by(&given_up::Own::default()).answer, answer, "{call}");
     }
     println!("product: {} calls with faults, of what is given up", lines.len() + 1);
+}
+
+/// Of two tables the first comes first (request 107), by this run; or, without one, they are
+/// equal. Asked the other way round, the second does. With three scratch cells more than are
+/// named.
+fn in_order(one: &Table, other: &Table, run: Option<&[u8]>) {
+    assert_eq!(ordering::first_difference(one, other).as_deref(), run, "{one:?} {other:?}");
+    let order = if run.is_some() { Ordering::Less } else { Ordering::Equal };
+    for (one, other, order) in [(one, other, order), (other, one, order.reverse())] {
+        let mut call = ordering::Call::of(one, other, Fill::Pattern);
+        call.scratch += 3;
+        put_in_order("two tables", &call, &call.expecting(order));
+    }
+}
+
+/// Answer and scratch afterwards are these, by the product and by the own reading.
+fn put_in_order(what: &str, call: &ordering::Call, expected: &ordering::Left) {
+    assert_eq!(call.by(&Product), *expected, "product, {what}: {call}");
+    assert_eq!(call.by(&ordering::Own), *expected, "own reading, {what}: {call}");
+}
+
+/// F waits after every run, C is ready after the run 0 alone, A after the empty one alone. F and
+/// C agree after the empty run and differ after 0, where F waits: F comes before C. After the
+/// empty run both wait and A is ready: both come before A. Reduced as A0 and C1 tell, A and C
+/// show what they showed; A1 and C2 always wait, as F does.
+#[test]
+fn order_of_a_c_and_f() {
+    in_order(&f(), &c(), Some(&[0]));
+    in_order(&f(), &a(), Some(&[]));
+    in_order(&c(), &a(), Some(&[]));
+    for table in [a(), c(), f()] {
+        in_order(&table, &table, None);
+    }
+    let a0 = Table::new(1, 0, &[1, 1], &[R, W]);
+    in_order(&a(), &a0, None);
+    in_order(&f(), &a0, Some(&[]));
+    in_order(&c(), &Table::new(1, 0, &[1, 2, 2], &[W, R, W]), None);
+    let a1 = Table::new(1, 0, &[0], &[W]);
+    in_order(&f(), &a1, None);
+    in_order(&a1, &c(), Some(&[0]));
+}
+
+/// After the empty run E with a ready row is ready, the others wait: it comes last. After 0 table
+/// B, on row 1, is ready; D, on row 0, and the waiting E are not: they come before B. D is on
+/// row 0 after 1, too, and ready after 0 0, on row 1: E comes before D. At offset 0 D becomes a
+/// table that shows the same; at offset 1 it becomes one that is ready at once.
+#[test]
+fn order_of_b_d_and_e() {
+    in_order(&e(W), &d(), Some(&[0, 0]));
+    in_order(&e(W), &b(), Some(&[0]));
+    in_order(&d(), &b(), Some(&[0]));
+    for table in [e(W), b(), d()] {
+        in_order(&table, &e(R), Some(&[]));
+        in_order(&table, &table, None);
+    }
+    in_order(&d(), &Table::new(2, 0, &[1, 1, 2, 0, 1, 1], &[W, W, R]), None);
+    in_order(&d(), &Table::new(2, 0, &[1, 1, 0, 2, 1, 1], &[R, W, W]), Some(&[]));
+}
+
+/// Tables that are ready after one run alone, 1, 0 0, 0 1 and 1 0. The shortest run is before the
+/// lowest: 1 is before 0 0. Of equally long ones the lowest is the first: 0 0, then 0 1, then
+/// 1 0, whatever their last events are. After it the table that is ready there comes last.
+#[test]
+fn the_shortest_run_and_the_lowest_decide() {
+    let after_1 = Table::new(2, 0, &[2, 1, 2, 2, 2, 2], &[W, R, W]);
+    let after_0_0 = Table::new(2, 0, &[1, 3, 2, 3, 3, 3, 3, 3], &[W, W, R, W]);
+    let after_0_1 = Table::new(2, 0, &[1, 3, 3, 2, 3, 3, 3, 3], &[W, W, R, W]);
+    let after_1_0 = Table::new(2, 0, &[3, 1, 2, 3, 3, 3, 3, 3], &[W, W, R, W]);
+    for (later, run) in [(&after_0_0, [0, 0]), (&after_0_1, [0, 1]), (&after_1_0, [1, 0])] {
+        in_order(later, &after_1, Some(&[1]));
+        in_order(&e(W), later, Some(&run));
+    }
+    in_order(&after_0_1, &after_0_0, Some(&[0, 0]));
+    in_order(&after_1_0, &after_0_0, Some(&[0, 0]));
+    in_order(&after_1_0, &after_0_1, Some(&[0, 1]));
+}
+
+/// A circle of two rows shows ready and wait by turns, one of three ready, wait, ready and again:
+/// they agree after fewer than three events, and after three the first waits. The start decides,
+/// not the row's number; unreached rows do not: C begun at row 1 is A, and at row 2 it is F.
+#[test]
+fn order_of_circles_and_starts() {
+    let two = Table::new(1, 0, &[1, 0], &[R, W]);
+    let three = Table::new(1, 0, &[1, 2, 0], &[R, W, R]);
+    in_order(&two, &three, Some(&[0, 0, 0]));
+    for (start, equal) in [(0, c()), (1, a()), (2, f()), (3, f())] {
+        in_order(&Table { start, ..c() }, &equal, None);
+    }
+}
+
+/// A and C, of three rows and four, with something wrong: the answer, and nothing is changed. The
+/// first's rules come first, then the second's, then 19, then 7.
+#[test]
+fn refusals_of_two_tables() {
+    type Line<'a> = (&'a str, fn(&mut ordering::Call), [usize; 2]);
+    let lines: [Line; 27] = [
+        ("no rows in the first", |c| c.tables[0].rows = 0, [1, 0]),
+        ("1,025 rows in the second", |c| c.tables[1].rows = 1025, [1, 0]),
+        ("33 events in the first", |c| c.tables[0].events = 33, [2, 0]),
+        ("no events in the second", |c| c.tables[1].events = 0, [2, 0]),
+        ("a cell more in the first", |c| c.tables[0].cells.push(0), [3, 0]),
+        ("no marks in the second", |c| c.tables[1].marks.clear(), [3, 0]),
+        ("two events in the second, four cells", |c| c.tables[1].events = 2, [3, 0]),
+        ("the first's start", |c| c.tables[0].start = 3, [4, 0]),
+        ("the second's start", |c| c.tables[1].start = 4, [4, 0]),
+        ("a target of the first", |c| c.tables[0].cells[1] = 3, [5, 1]),
+        ("a target of the second", |c| c.tables[1].cells[2] = 4, [5, 2]),
+        ("the last targets of the second", |c| c.tables[1].cells[2..].fill(9), [5, 2]),
+        ("a spare bit of the first", |c| c.tables[0].marks[0] |= 8, [6, 0]),
+        ("a spare bit of the second", |c| c.tables[1].marks[0] |= 16, [6, 0]),
+        ("two events in the first", |c| two_events(c, 0), [19, 0]),
+        ("two events in the second", |c| two_events(c, 1), [19, 0]),
+        ("11 scratch cells", |c| c.scratch = 11, [7, 0]),
+        ("no scratch", |c| c.scratch = 0, [7, 0]),
+        ("9 scratch cells, the first's rows squared", |c| c.scratch = 9, [7, 0]),
+        (
+            "a spare bit of the first, no rows in the second",
+            |c| (c.tables[0].marks[0], c.tables[1].rows) = (255, 0),
+            [6, 0],
+        ),
+        ("a target of each", |c| (c.tables[0].cells[2], c.tables[1].cells[0]) = (3, 4), [5, 2]),
+        (
+            "starts of both, and of the first no events",
+            |c| (c.tables[0].start, c.tables[1].start, c.tables[0].events) = (9, 9, 0),
+            [2, 0],
+        ),
+        (
+            "two events in the first, a spare bit of the second",
+            |c| (two_events(c, 0), c.tables[1].marks[0] = 255).0,
+            [6, 0],
+        ),
+        (
+            "two events in the second, and a start",
+            |c| (two_events(c, 1), c.tables[1].start = 4).0,
+            [4, 0],
+        ),
+        (
+            "a spare bit of the second, no scratch",
+            |c| (c.tables[1].marks[0], c.scratch) = (255, 0),
+            [6, 0],
+        ),
+        (
+            "a spare bit of the first, no scratch",
+            |c| (c.tables[0].marks[0], c.scratch) = (255, 0),
+            [6, 0],
+        ),
+        ("two events in the second, no scratch", |c| (two_events(c, 1), c.scratch = 0).0, [19, 0]),
+    ];
+    let sound = ordering::Call::of(&a(), &c(), Fill::Pattern);
+    assert_eq!(sound.scratch, 12);
+    for (what, change, [number, place]) in lines {
+        let mut call = sound.clone();
+        change(&mut call);
+        put_in_order(what, &call, &call.refused(number, place));
+    }
+    // 12 of 15 scratch cells are 0 afterwards, and no more. C comes before A.
+    let call = ordering::Call { scratch: 15, ..sound };
+    for left in [call.by(&Product), call.by(&ordering::Own)] {
+        assert_eq!(left.answer, [0, 2, 0, 0]);
+        assert_eq!(left.scratch[..12], [0; 12]);
+        assert_eq!(left.scratch[12..], Fill::Pattern.cells(15)[12..]);
+    }
+    println!("product: {} calls with faults, of two tables", lines.len());
+}
+
+/// One of the tables has two events that lead to row 0.
+fn two_events(call: &mut ordering::Call, which: usize) {
+    let table = &mut call.tables[which];
+    (table.events, table.cells) = (2, vec![0; 2 * table.rows]);
 }
 
 /// "bit e for event e": of 32 events one leads from row 0, which is ready, to row 1;

@@ -26,7 +26,7 @@ use independent::shapes::{mask, offsets_for, table, with_mask, Shape, SHAPES};
 use independent::small::{all_masks, all_tables, reached_tables};
 use independent::spoiled::{find, REDUCER_FAULTS, SECOND_WAY_FAULTS};
 use independent::table::{every_event, Mask, Offset, Table};
-use independent::wrong::{add, resized, set};
+use independent::wrong::{add, set, Wrong, Wrongs};
 
 const TOO_SHORT: Answer = [7, 0, 0, 0];
 
@@ -439,52 +439,8 @@ fn lent_buffers_of_every_length() {
 /// The rules in the order in which they are judged: 16 is "straight after 6".
 const ORDER: [usize; 8] = [1, 2, 3, 4, 5, 6, 16, 7];
 
-/// Something wrong: the rule that it breaks, and how; that answers the place, or
-/// nothing where it cannot be done to this table.
-type Wrong = (usize, fn(&mut Given) -> Option<usize>);
-
-/// Done to one table, those farther down come first: so they find the right numbers.
-const WRONG: [Wrong; 47] = [
-    (1, |g| set(&mut g.numbers.rows, 0)),
-    (1, |g| set(&mut g.numbers.rows, 1025)),
-    (1, |g| add(&mut g.numbers.rows, 1 << 16)),
-    (1, |g| add(&mut g.numbers.rows, 1 << 32)),
-    (1, |g| add(&mut g.numbers.rows, 1 << 63)),
-    (1, |g| set(&mut g.numbers.rows, usize::MAX)),
-    (2, |g| set(&mut g.numbers.events, 0)),
-    (2, |g| set(&mut g.numbers.events, 33)),
-    (2, |g| add(&mut g.numbers.events, 1 << 16)),
-    (2, |g| add(&mut g.numbers.events, 1 << 32)),
-    (2, |g| add(&mut g.numbers.events, 1 << 63)),
-    (2, |g| set(&mut g.numbers.events, usize::MAX)),
-    (3, |g| resized(&mut g.numbers.cells, -1)),
-    (3, |g| resized(&mut g.numbers.cells, 1)),
-    (3, |g| resized(&mut g.numbers.cells, 65_536)),
-    (3, |g| resized(&mut g.numbers.marks, -1)),
-    (3, |g| resized(&mut g.numbers.marks, 1)),
-    (3, |g| resized(&mut g.numbers.marks, 65_536)),
-    (3, |g| set(&mut g.numbers.cells, vec![])),
-    (3, |g| set(&mut g.numbers.marks, vec![])),
-    (3, |g| (g.numbers.rows < 1024).then(|| g.numbers.rows += 1).map(|()| 0)),
-    (3, |g| (g.numbers.events < 32).then(|| g.numbers.events += 1).map(|()| 0)),
-    (4, |g| set(&mut g.numbers.start, g.numbers.rows)),
-    (4, |g| set(&mut g.numbers.start, 65_535)),
-    (4, |g| add(&mut g.numbers.start, 1 << 16)),
-    (4, |g| add(&mut g.numbers.start, 1 << 32)),
-    (4, |g| set(&mut g.numbers.start, usize::MAX)),
-    (5, |g| no_row(g, 0, 0)),
-    (5, |g| no_row(g, g.numbers.cells.len() - 1, 0)),
-    (5, |g| no_row(g, g.numbers.cells.len() / 2, 65_535)),
-    (5, |g| {
-        // Two or three such cells: the first is the place.
-        let (third, last) = (g.numbers.cells.len() / 3, g.numbers.cells.len() - 1);
-        no_row(g, last, 3);
-        no_row(g, third * 2, 1);
-        no_row(g, third, 2)
-    }),
-    (6, |g| spare_bits(g, 1 << (g.numbers.rows % 8))),
-    (6, |g| spare_bits(g, 1 << 7)),
-    (6, |g| spare_bits(g, 255 << (g.numbers.rows % 8))),
+/// What may be wrong with a call, beside the table.
+const WRONG: [Wrong<Given>; 13] = [
     (16, |g| high_bits(g, 1 << (g.numbers.events % 32))),
     (16, |g| high_bits(g, 1 << 31)),
     (16, |g| high_bits(g, Mask::MAX)),
@@ -505,20 +461,6 @@ const WRONG: [Wrong; 47] = [
     (7, |g| set(&mut g.lent, Lengths { cells: 0, marks: 0, scratch: 0 })),
 ];
 
-/// A target that is so much above the last row.
-fn no_row(given: &mut Given, cell: usize, above: usize) -> Option<usize> {
-    given.numbers.cells[cell] = (given.numbers.rows + above).min(65_535) as u16;
-    Some(cell)
-}
-
-fn spare_bits(given: &mut Given, bits: u32) -> Option<usize> {
-    if given.numbers.rows % 8 == 0 {
-        return None;
-    }
-    *given.numbers.marks.last_mut()? |= bits as u8;
-    Some(0)
-}
-
 fn high_bits(given: &mut Given, bits: Mask) -> Option<usize> {
     if given.numbers.events == 32 {
         return None;
@@ -527,71 +469,31 @@ fn high_bits(given: &mut Given, bits: Mask) -> Option<usize> {
     Some(0)
 }
 
-/// A sound call with these things wrong, of a list of [`WRONG`] in its order, not two
-/// of one rule: the first in [`ORDER`] gives the answer, in both ways.
-fn with_wrongs(
-    functions: &dyn Direct,
-    report: Report,
-    sound: impl Fn(Way) -> Given,
-    wrongs: &[usize],
-    fill: Fill,
-) {
-    let spoilt = |way| {
-        let mut given = sound(way);
-        let mut answer = None;
-        for &wrong in wrongs.iter().rev() {
-            let (rule, change) = WRONG[wrong];
-            if let Some(place) = change(&mut given) {
-                answer = Some([rule, place, 0, 0]);
-            }
-        }
-        (given, answer)
-    };
-    if let Some(expected) = spoilt(Way::First).1 {
-        let call = |way| spoilt(way).0.call(fill);
-        both_ways(functions, &Own::default(), report, call, |_, answer| answer == expected);
-    }
-}
-
-/// Each thing wrong alone, any two, and so many times one for each rule of every set
-/// of rules. (Not any two where scratch is large: each call takes long.)
+/// A sound call with each thing wrong alone, any two, and so many times one for each rule of
+/// every set of rules: the first in [`ORDER`] gives the answer, in both ways. (Not any two where
+/// scratch is large: each call takes long.)
 fn wrong_calls(functions: &dyn Direct, report: Report, size: (usize, usize), times: usize) {
     let (rows, events) = size;
     let mut random = Random::new(344_000 + (100 * rows + events) as u64);
     let given = table(&mut random, Shape::Free, rows, events);
     let (mask, offset) = (mask(&mut random, events), random.below(70_000) as u32);
-    let sound = |way| Given::of(way, &given, mask, offset);
-    for one in 0..WRONG.len() {
-        let fill = Fill::ALL[one % 3];
-        with_wrongs(functions, report, sound, &[one], fill);
-        for other in one + 1..WRONG.len() {
-            if WRONG[one].0 != WRONG[other].0 && rows < 200 {
-                with_wrongs(functions, report, sound, &[one, other], fill);
-            }
+    let all = Wrongs::judged(&ORDER).with_table(0, |g: &mut Given| &mut g.numbers).with(&WRONG);
+    for (wrongs, fill) in all.mixtures(&mut random, rows < 200, [1, times]) {
+        let spoilt = |way| {
+            let mut given = Given::of(way, &given, mask, offset);
+            let answer = all.done(&wrongs, &mut given);
+            (given, answer)
+        };
+        if let Some((rule, place)) = spoilt(Way::First).1 {
+            let call = |way| spoilt(way).0.call(fill);
+            let right = |_, answer| answer == [rule, place, 0, 0];
+            both_ways(functions, &Own::default(), report, call, right);
         }
     }
-    for set in 1..1 << ORDER.len() {
-        for _ in 0..times {
-            let wrongs: Vec<usize> = (0..ORDER.len())
-                .filter(|place| set >> place & 1 == 1)
-                .map(|place| some_wrong(&mut random, ORDER[place]))
-                .collect();
-            with_wrongs(functions, report, sound, &wrongs, *random.pick(&Fill::ALL));
-        }
-    }
-}
-
-/// A number in [`WRONG`] for a rule.
-fn some_wrong(random: &mut Random, rule: usize) -> usize {
-    let all: Vec<usize> = (0..WRONG.len()).filter(|&wrong| WRONG[wrong].0 == rule).collect();
-    *random.pick(&all)
 }
 
 #[test]
 fn wrong_arguments() {
-    // The list is in the order of the rules.
-    let place = |rule: usize| ORDER.iter().position(|&other| other == rule);
-    assert!(WRONG.windows(2).all(|two| place(two[0].0) <= place(two[1].0)));
     on_product("wrong arguments of the reducer in both ways", |functions, report| {
         for size in [(1, 1), (2, 2), (3, 1), (8, 2), (9, 3), (20, 32), (130, 2)] {
             wrong_calls(functions, report, size, 4);

@@ -11,8 +11,8 @@
 
 use independent::calls::Numbers;
 use independent::cutter::{count_all, table_number};
-use independent::damage::{same, Answers, Inputs};
-use independent::direct::{offset_of, Fill, Report};
+use independent::damage::{same, Inputs};
+use independent::direct::{count_answers, offset_of, Fill, Report};
 use independent::given_up::{
     compare, line, scratch_named, text_for, Asked, Call, Folds, GivenUp, Own,
 };
@@ -26,10 +26,10 @@ use independent::random::Random;
 use independent::rules::{Fate, Length, Study};
 use independent::runs::{all_chosen, all_runs, longest_needed};
 use independent::shapes::{comb, mask, table, with_mask, Shape, SHAPES};
-use independent::small::{all_masks, all_tables, reached_tables};
+use independent::small::{all_masks, all_tables, every_nth, reached_tables};
 use independent::spoiled::find_with;
 use independent::table::{every_event, Mask, Offset, Table};
-use independent::wrong::{add, resized, set};
+use independent::wrong::{add, set, Wrong, Wrongs};
 
 /// A call that lends the named scratch and so many bytes for the run.
 fn call(given: &Table, mask: Mask, offset: u32, row: usize, run: usize, fill: Fill) -> Call {
@@ -50,9 +50,7 @@ fn prints(functions: &dyn GivenUp, input: &[u8], text: &str) -> Result<usize, St
 
 /// Makes calls of the product, stops at a fault, and shows the answers.
 fn on_product(what: &str, calls: impl Fn(&dyn GivenUp, Report)) {
-    let answers = Answers::default();
-    calls(&Product, &|answer| answers.count(answer));
-    answers.show(what, "taken");
+    count_answers(what, |report| calls(&Product, report));
 }
 
 // (a) Small tables against brute force.
@@ -121,7 +119,10 @@ fn small_tables_against_brute_force() {
                 tables.add(1);
             };
             match (rows, events) {
-                (3, 2) => every_nth(7, rows, events, check),
+                (3, 2) => {
+                    let some = every_nth(events, &[(rows, 7)]);
+                    spread(some.len(), |piece| check(&some[piece]));
+                }
                 (4, 1) | (5, 1) => drop(reached_tables([0, 1], rows, events, 500_000, check)),
                 (4, 2) => drop(reached_tables([3, 130], rows, events, 500_000, check)),
                 _ => drop(all_tables(rows, events, check)),
@@ -129,13 +130,6 @@ fn small_tables_against_brute_force() {
         }
     });
     println!("  {} tables under all masks, at all offsets and none, all rows", tables.value());
-}
-
-/// Each n-th table of a size.
-fn every_nth(n: usize, rows: usize, events: usize, check: impl Fn(&Table) + Sync) {
-    spread(count_all(rows, events).div_ceil(n), |piece| {
-        check(&table_number(rows, events, n * piece));
-    });
 }
 
 // (b) Larger tables.
@@ -470,35 +464,8 @@ fn long_runs_and_most_rows() {
 /// The rules in the order in which they are judged.
 const ORDER: [usize; 9] = [1, 2, 3, 4, 5, 6, 16, 7, 18];
 
-/// Something wrong: the rule that it breaks, and how; that answers the place, or nothing
-/// where it cannot be done to this call.
-type Wrong = (usize, fn(&mut Call) -> Option<usize>);
-
-/// Done to one call, those farther down come first: so they find the right numbers.
-const WRONG: [Wrong; 51] = [
-    (1, |c| set(&mut c.asked.given.rows, 0)),
-    (1, |c| set(&mut c.asked.given.rows, 1025)),
-    (1, |c| add(&mut c.asked.given.rows, 1 << 16)),
-    (1, |c| add(&mut c.asked.given.rows, 1 << 32)),
-    (1, |c| set(&mut c.asked.given.rows, usize::MAX)),
-    (2, |c| set(&mut c.asked.given.events, 0)),
-    (2, |c| set(&mut c.asked.given.events, 33)),
-    (2, |c| add(&mut c.asked.given.events, 1 << 16)),
-    (2, |c| add(&mut c.asked.given.events, 1 << 32)),
-    (2, |c| set(&mut c.asked.given.events, usize::MAX)),
-    (3, |c| resized(&mut c.asked.given.cells, -1)),
-    (3, |c| resized(&mut c.asked.given.cells, 1)),
-    (3, |c| resized(&mut c.asked.given.cells, 65_536)),
-    (3, |c| resized(&mut c.asked.given.marks, -1)),
-    (3, |c| resized(&mut c.asked.given.marks, 1)),
-    (3, |c| set(&mut c.asked.given.cells, vec![])),
-    (3, |c| (c.asked.given.rows < 1024).then(|| c.asked.given.rows += 1).map(|()| 0)),
-    (3, |c| (c.asked.given.events < 32).then(|| c.asked.given.events += 1).map(|()| 0)),
-    (4, |c| set(&mut c.asked.given.start, c.asked.given.rows)),
-    (4, |c| set(&mut c.asked.given.start, 65_535)),
-    (4, |c| add(&mut c.asked.given.start, 1 << 16)),
-    (4, |c| add(&mut c.asked.given.start, 1 << 32)),
-    (4, |c| set(&mut c.asked.given.start, usize::MAX)),
+/// What may be wrong with a call, beside the table.
+const WRONG: [Wrong<Call>; 22] = [
     (4, |c| set(&mut c.asked.row, c.asked.given.rows)),
     (4, |c| set(&mut c.asked.row, c.asked.given.rows + 1)),
     (4, |c| set(&mut c.asked.row, 1024)),
@@ -508,16 +475,6 @@ const WRONG: [Wrong; 51] = [
     (4, |c| add(&mut c.asked.row, 1 << 63)),
     (4, |c| set(&mut c.asked.row, usize::MAX)),
     (4, |c| set(&mut c.asked.row, usize::MAX).and(set(&mut c.asked.given.start, 1024))),
-    (5, |c| no_row(c, 0, 0)),
-    (5, |c| no_row(c, c.asked.given.cells.len() - 1, 0)),
-    (5, |c| no_row(c, c.asked.given.cells.len() / 2, 65_535)),
-    (5, |c| {
-        // Two such cells: the first is the place.
-        no_row(c, c.asked.given.cells.len() - 1, 3);
-        no_row(c, c.asked.given.cells.len() / 3, 2)
-    }),
-    (6, |c| spare_bits(c, 1 << (c.asked.given.rows % 8))),
-    (6, |c| spare_bits(c, 1 << 7)),
     (16, |c| high_bits(c, 1 << (c.asked.given.events % 32))),
     (16, |c| high_bits(c, 1 << 31)),
     (16, |c| high_bits(c, Mask::MAX)),
@@ -540,22 +497,6 @@ fn lend(call: &mut Call, scratch: fn(usize) -> usize) -> Option<usize> {
     Some(0)
 }
 
-/// A target that is so much above the last row.
-fn no_row(call: &mut Call, cell: usize, above: usize) -> Option<usize> {
-    let given = &mut call.asked.given;
-    given.cells[cell] = (given.rows + above).min(65_535) as u16;
-    Some(cell)
-}
-
-fn spare_bits(call: &mut Call, bits: u32) -> Option<usize> {
-    let given = &mut call.asked.given;
-    if given.rows % 8 == 0 {
-        return None;
-    }
-    *given.marks.last_mut()? |= bits as u8;
-    Some(0)
-}
-
 fn high_bits(call: &mut Call, bits: Mask) -> Option<usize> {
     if call.asked.given.events == 32 {
         return None;
@@ -564,35 +505,8 @@ fn high_bits(call: &mut Call, bits: Mask) -> Option<usize> {
     Some(0)
 }
 
-/// A sound call with these things wrong, of a list of [`WRONG`] in its order, not two of one
-/// rule: the first in [`ORDER`] gives the answer.
-fn with_wrongs(
-    functions: &dyn GivenUp,
-    report: Report,
-    (sound, folds): &(Call, Folds),
-    wrongs: &[usize],
-    fill: Fill,
-) {
-    let mut call = Call { fill, ..sound.clone() };
-    let mut answer = None;
-    for &wrong in wrongs.iter().rev() {
-        let (rule, change) = WRONG[wrong];
-        answer = change(&mut call).map(|place| (rule, place)).or(answer);
-    }
-    let expected = match answer {
-        None => return,
-        Some((18, _)) => {
-            let (distance, run) = folds.given_up(sound.asked.row);
-            call.expecting(distance, &run)
-        }
-        Some((rule, place)) => call.refused(rule, place),
-    };
-    assert_eq!(expected.answer, [answer.unwrap().0, answer.unwrap().1, 0, 0], "{call}");
-    assert_eq!(call.by(&Own::default()), expected, "own reading: {call}");
-    report(compare(functions, &call, &expected));
-}
-
-/// Each thing wrong alone, any two, and so many times one for each rule of every set of rules.
+/// A sound call with each thing wrong alone, any two, and so many times one for each rule of
+/// every set of rules: the first in [`ORDER`] gives the answer.
 fn wrong_calls(
     functions: &dyn GivenUp,
     report: Report,
@@ -600,38 +514,26 @@ fn wrong_calls(
     times: usize,
 ) {
     let mut random = Random::new(540_000 + (100 * rows + events) as u64);
-    let sound = with_run(&mut random, rows, events, wanted);
-    for one in 0..WRONG.len() {
-        let fill = Fill::ALL[one % 3];
-        with_wrongs(functions, report, &sound, &[one], fill);
-        for other in one + 1..WRONG.len() {
-            if WRONG[one].0 != WRONG[other].0 {
-                with_wrongs(functions, report, &sound, &[one, other], fill);
+    let (sound, folds) = with_run(&mut random, rows, events, wanted);
+    let all = Wrongs::judged(&ORDER).with_table(0, |c: &mut Call| &mut c.asked.given).with(&WRONG);
+    for (wrongs, fill) in all.mixtures(&mut random, true, [1, times]) {
+        let mut call = Call { fill, ..sound.clone() };
+        let Some((rule, place)) = all.done(&wrongs, &mut call) else { continue };
+        let expected = match rule {
+            18 => {
+                let (distance, run) = folds.given_up(sound.asked.row);
+                call.expecting(distance, &run)
             }
-        }
+            _ => call.refused(rule, place),
+        };
+        assert_eq!(expected.answer, [rule, place, 0, 0], "{call}");
+        assert_eq!(call.by(&Own::default()), expected, "own reading: {call}");
+        report(compare(functions, &call, &expected));
     }
-    for set in 1..1 << ORDER.len() {
-        for _ in 0..times {
-            let wrongs: Vec<usize> = (0..ORDER.len())
-                .filter(|place| set >> place & 1 == 1)
-                .map(|place| some_wrong(&mut random, ORDER[place]))
-                .collect();
-            with_wrongs(functions, report, &sound, &wrongs, *random.pick(&Fill::ALL));
-        }
-    }
-}
-
-/// A number in [`WRONG`] for a rule.
-fn some_wrong(random: &mut Random, rule: usize) -> usize {
-    let all: Vec<usize> = (0..WRONG.len()).filter(|&wrong| WRONG[wrong].0 == rule).collect();
-    *random.pick(&all)
 }
 
 #[test]
 fn wrong_arguments() {
-    // The list is in the order of the rules.
-    let place = |rule: usize| ORDER.iter().position(|&other| other == rule);
-    assert!(WRONG.windows(2).all(|two| place(two[0].0) <= place(two[1].0)));
     on_product("wrong arguments", |functions, report| {
         for size in [(1, 1, 0), (2, 2, 0), (3, 1, 1), (8, 2, 3), (9, 3, 2), (20, 32, 2)] {
             wrong_calls(functions, report, size, 3);

@@ -1,23 +1,27 @@
 //! The self-test: this project's own parts against each other, without the product.
 
+use independent::alike::{changed, changed_far, circles, equal_to};
 use independent::cutter::{
     agree, agree_large, count_all, forms, least_plain, table_number, Cutter,
 };
 use independent::damage::{same, Inputs};
-use independent::direct::offset_of;
+use independent::direct::{offset_of, Fill};
+use independent::disordered::Disordered;
 use independent::judge::{all_offsets, depths_by_lengths, fits, judge, read_listing};
 use independent::large::{self, KINDS};
 use independent::last_run::chosen;
 use independent::levels::Levels;
 use independent::mistaken::{Mistaken, FAULTS, RIGHT};
+use independent::ordering::{first_difference, order_by, Call, Own, Sorts};
 use independent::parallel::{spread, Counter};
 use independent::random::Random;
 use independent::rules::{assemble, listing, text_for, Fate, Length, Study};
 use independent::runs::{
-    all_chosen, all_runs, along, distance_by, lengths, longest_needed, pairs, Chosen, Followed,
+    all_chosen, all_runs, along, distance_by, lengths, longest_for_order, longest_needed, pairs,
+    shown, spelled, Chosen, Followed,
 };
 use independent::shapes::{table, with_mask, Shape, SHAPES};
-use independent::small::{all_masks, all_reached_tables, all_tables, reached_tables};
+use independent::small::{all_masks, all_reached_tables, all_tables, every_nth, reached_tables};
 use independent::table::{
     counted, every_event, read_image, read_input, read_sheet_input, Mask, Offset, Table,
 };
@@ -191,18 +195,7 @@ fn agreement_of_larger_tables() {
             let rows = random.between(1, 12);
             let events = random.between(1, 3);
             let (given, mask) = with_mask(&mut random, shape, rows, events);
-            let mut other = given.clone();
-            if random.chance(1, 2) {
-                let row = random.below(rows);
-                other.marks[row] = !other.marks[row];
-            }
-            if random.chance(1, 2) {
-                other.start = random.below(rows);
-            }
-            if random.chance(1, 4) {
-                let cell = random.below(rows * events);
-                other.targets[cell] = random.below(rows);
-            }
+            let other = changed(&mut random, &given);
             check_agreement(&given, &other, mask, 2 * rows);
             tried.add(1);
         }
@@ -584,6 +577,98 @@ fn chosen_runs_of_larger_tables() {
         }
     });
     sorts.show("of larger tables");
+}
+
+/// The run that tells two tables apart, found quickly, which is not longer than runs.rs says; the
+/// tables are equal if and only if they agree after every run (cutter.rs).
+fn told_apart(sorts: &Sorts, one: &Table, other: &Table) -> Option<Vec<u8>> {
+    let run = first_difference(one, other);
+    let agree = agree_large(one, other, every_event(one.events), Some(0));
+    assert_eq!(run.is_none(), agree, "{one:?} {other:?}");
+    let length = run.as_ref().map_or(0, Vec::len);
+    assert!(run.is_none() || length + 2 <= one.rows + other.rows, "{one:?} {other:?}");
+    sorts.count(run.as_deref());
+    run
+}
+
+/// Tables, each with each: by the marks that they show after all runs up to a length.
+fn check_order(sorts: &Sorts, tables: &[Table], longest: usize) {
+    let runs = all_runs(tables[0].events, longest);
+    let shown: Vec<Vec<bool>> = tables.iter().map(|table| shown(table, &runs)).collect();
+    spread(tables.len(), |piece| {
+        for (other, other_shown) in tables.iter().zip(&shown) {
+            let (one, one_shown) = (&tables[piece], &shown[piece]);
+            let run = told_apart(sorts, one, other);
+            let expected = one_shown.iter().zip(other_shown).position(|(one, other)| one != other);
+            assert_eq!(run, expected.map(|run| spelled(&runs, run)), "{one:?} {other:?}");
+            let order = order_by(run.as_deref(), one, other);
+            assert_eq!(order, one_shown.cmp(other_shown), "{one:?} {other:?}");
+        }
+    });
+}
+
+/// All small tables with each other, and some of those that are too many, by runs that are
+/// longer than runs.rs says; those of 5 rows by runs as long.
+#[test]
+fn order_run_by_run() {
+    let sorts = Sorts::default();
+    // Events; row counts, and of each how manieth table; how much longer than needed runs are.
+    type Sizes<'a> = &'a [(usize, usize)];
+    let kinds: [(usize, Sizes, usize); 5] = [
+        (1, &[(1, 1), (2, 1), (3, 1), (4, 37)], 8),
+        (2, &[(1, 1), (2, 1)], 4),
+        (2, &[(1, 1), (2, 5), (3, 67), (4, 65_537)], 2),
+        (2, &[(3, 311), (5, 30_000_001)], 0),
+        (3, &[(1, 1), (2, 3), (3, 4_001)], 2),
+    ];
+    for (events, sizes, longer) in kinds {
+        let most = sizes.iter().map(|size| size.0).max().unwrap();
+        check_order(&sorts, &every_nth(events, sizes), longest_for_order(2 * most) + longer);
+    }
+    sorts.show("order run by run");
+}
+
+/// Larger tables of all shapes and kinds with some that are much alike, and circles that only
+/// the longest runs tell apart: as disordered.rs has it without a fault.
+#[test]
+fn order_of_larger_tables() {
+    let sorts = Sorts::default();
+    let check = |one: &Table, other: &Table| {
+        let run = told_apart(&sorts, one, other);
+        let call = Call::of(one, other, Fill::Pattern);
+        let expected = call.expecting(order_by(run.as_deref(), one, other));
+        assert_eq!(call.by(&Own), expected, "{call}");
+        assert_eq!(call.by(&Disordered::by("no fault")), expected, "{call}");
+        run.map(|run| run.len())
+    };
+    let with_others = |random: &mut Random, given: &Table| {
+        let equal = equal_to(random, given, given.rows + 9);
+        assert_eq!(check(given, &equal), None, "{given:?} {equal:?}");
+        for other in [changed(random, &equal), changed_far(random, &equal)] {
+            check(given, &other);
+            check(&other, given);
+        }
+    };
+    spread(100, |piece| {
+        let mut random = Random::new(4_990 + piece as u64);
+        for shape in SHAPES {
+            let (rows, events) = (random.between(1, 40), random.between(1, 4));
+            let given = table(&mut random, shape, rows, events);
+            with_others(&mut random, &given);
+        }
+    });
+    spread(2 * KINDS.len(), |piece| {
+        let (kind, rows) = (KINDS[piece / 2], [17, 90][piece % 2]);
+        let mut random = Random::new(5_100 + piece as u64);
+        let mask = large::masks(&mut random, kind, 3)[piece % 4];
+        let given = large::table(&mut random, kind, rows, 3, mask);
+        with_others(&mut random, &given);
+    });
+    for (p, q) in [(2, 3), (3, 2), (5, 12), (31, 32), (64, 63), (100, 3), (127, 128), (1024, 3)] {
+        let [one, other] = circles(p, q);
+        assert_eq!(check(&one, &other), Some(p + q - 2));
+    }
+    sorts.show("order of larger tables");
 }
 
 /// An image read back is the table; the document's own bytes for case A0.
