@@ -6,7 +6,6 @@ use native.Mathlib.Omega.{arith}
 use lib.Arith.{digits-lt, digits-div, digits-mod}
 use lib.ListN.{length, getD, replicate}
 use Rattle.automata.specs.Runs.{Sound}
-use Rattle.tables.specs.Lists.{over}
 use Rattle.tables.specs.Table.{Table, machine}
 use Rattle.tables.proofs.Reduced.{sound-of}
 use Rattle.rules.specs.Rules.{tableOf, leftBy}
@@ -15,7 +14,7 @@ use Rattle.rules.specs.declared.Verdict.the-variants.{Fine, Refused}
 use Rattle.scratch.specs.Scratch.{cleared}
 use Rattle.scratch.proofs.Cells.{cleared-length, cleared-inside, cleared-behind, clear-work}
 use Rattle.ordering.specs.Order.{allEvents, comparison}
-use Rattle.ordering.specs.Found.{numberOf, orderOf, pairsOf, foundAt}
+use Rattle.ordering.specs.Found.{numberOf, orderOf, foundAt}
 use Rattle.ordering.specs.declared.Order.{Order}
 use Rattle.ordering.specs.declared.Order.the-variants.{Equal}
 use Rattle.ordering.proofs.Pairs.{order-number, pair-equal, pair-told}

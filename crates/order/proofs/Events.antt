@@ -1,15 +1,15 @@
 -- The events of a pair, followed one by one.
-use mathlib.Core.Path.{_≡_, refl, sym, ap, ap₂, subst, subst₂, _∙_}
+use mathlib.Core.Path.{_≡_, sym, ap, ap₂, subst, subst₂, _∙_}
 use mathlib.Core.List.{List}
 use Prim.Native.Nat.{ℕ, suc, _+_, _*_, _/_, _%_, _≤_, _<_}
 use native.Mathlib.Omega.{arith}
 use native.Mathlib.Numerals.{add-one}
 use lib.Arith.{digits-div, digits-mod}
 use lib.ListN.{length, getD, set}
-use Rattle.automata.specs.Runs.{Events, Machine, Sound}
+use Rattle.automata.specs.Runs.{Events, Machine}
 use Rattle.ordering.specs.Order.{byMarks}
 use Rattle.ordering.specs.Found.{numberOf, pairsOf}
-use Rattle.ordering.proofs.Pairs.{row-in, other-in, pairs-inside}
+use Rattle.ordering.proofs.Pairs.{other-in, pairs-inside}
 use Rattle.order.specs.Cells.{metWith, raised, tells}
 use Rattle.order.specs.Search.{Given, Spreading, Going, Carried}
 use Rattle.order.proofs.Spreads.{spread-event, spread-pair}

@@ -1,17 +1,17 @@
 -- Level by level: what a sweep leaves, and what it means that nothing was met or that marks differ.
-use mathlib.Core.Path.{_≡_, refl, sym, ap, subst, _∙_}
+use mathlib.Core.Path.{_≡_, sym, ap, _∙_}
 use mathlib.Core.List.{List}
 use mathlib.Core.Logic.{_⊎_, inl, inr}
 use Prim.Native.Nat.{ℕ, zero, suc, _+_, _*_, _%_, _≤_, _<_}
 use native.Mathlib.Omega.{arith}
-use native.Mathlib.Decide.{ℕ-discrete, decLt}
+use native.Mathlib.Decide.{ℕ-discrete}
 use lib.ListN.{length, getD, set, length-set}
 use lib.Seq.{getD-set-same, getD-set-other}
 use Rattle.automata.specs.Runs.{Events, Machine}
-use Rattle.ordering.specs.Found.{Graph, Inside, foundAt, Met, Wider}
+use Rattle.ordering.specs.Found.{Graph, Inside, foundAt, Wider}
 use Rattle.ordering.proofs.Found.{found-before, found-upto, found-start, met-first, met-next, met-rest}
 use Rattle.order.specs.Cells.{levelAt}
-use Rattle.order.specs.Search.{Framed, Given, Spreading, Reached, Quiet, Bare, Told, Sought}
+use Rattle.order.specs.Search.{Framed, Given, Spreading, Reached, Quiet, Bare, Told}
 
 -- The level that stands in a cell.
 level-in : (c m l : ℕ) → l < 4096 → c ≡ 4096 * m + l → c % 4096 ≡ l

@@ -1,7 +1,7 @@
 -- A sweep that tells pairs of a level what those of the next say, and what it leaves.
 use mathlib.Core.Path.{_≡_, refl, sym, ap, subst, _∙_}
 use mathlib.Core.List.{List}
-use mathlib.Core.Logic.{_⊎_, inl, inr}
+use mathlib.Core.Logic.{inl, inr}
 use Prim.Native.Nat.{ℕ, zero, suc, _+_, _-_, _*_, _/_, _%_, _≤_, _<_}
 use native.Mathlib.Omega.{arith}
 use native.Mathlib.Decide.{ℕ-discrete, decLt}
@@ -9,7 +9,7 @@ use borrow.Author.Tests.{eq-eqb, ne-eqb}
 use lib.ListN.{length, getD, set, length-set}
 use lib.Seq.{getD-set-same, getD-set-other}
 use Rattle.automata.proofs.Tests.{last-or-less}
-use Rattle.ordering.specs.Found.{Graph, Inside, firstFound, foundAt, Met}
+use Rattle.ordering.specs.Found.{Graph, Inside, foundAt}
 use Rattle.ordering.proofs.Found.{found-same, found-back, met-same}
 use Rattle.order.specs.Cells.{levelAt, tells}
 use Rattle.order.specs.Search.{Framed, toldFrom, settledTo, Settling, Told}

@@ -10,7 +10,7 @@ use lib.Seq.{getD-set-same, getD-set-other, set-getD}
 use Rattle.automata.proofs.Tests.{last-or-less}
 use Rattle.ordering.specs.Found.{Graph, Inside}
 use Rattle.order.specs.Cells.{metWith, worse, raised}
-use Rattle.order.specs.Search.{Framed, From, Followed, Spreading}
+use Rattle.order.specs.Search.{From, Followed, Spreading}
 
 -- ---- what is made of a cell and of `most`
 

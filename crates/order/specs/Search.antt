@@ -7,7 +7,7 @@ use Prim.Native.Nat.{ℕ, suc, _+_, _-_, _*_, _≤_, _<_}
 use lib.Dec.{eqb}
 use lib.ListN.{length, getD}
 use Rattle.automata.specs.Runs.{Events, Machine, Sound}
-use Rattle.tables.specs.Table.{Table, machine}
+use Rattle.tables.specs.Table.{machine}
 use Rattle.rules.specs.Rules.{tableOf}
 use Rattle.ordering.specs.Order.{comparison}
 use Rattle.ordering.specs.declared.Order.{Order}

@@ -4,7 +4,7 @@ ghost use Prim.Native.Nat.{suc, _+_, _-_, _*_, _/_, _%_, _≤_, _<_};
 ghost use lib.ListN.{length, getD, set, replicate};
 ghost use Rattle.rules.specs.Rules.{tableOf, leftBy};
 ghost use Rattle.ordering.specs.Order.{comparison};
-ghost use Rattle.ordering.specs.Found.{orderOf, firstFound};
+ghost use Rattle.ordering.specs.Found.{orderOf};
 ghost use Rattle.order_rules.specs.Checks.{pairCells, verdict, answerBy};
 ghost use Rattle.order.specs.Cells.{lowerOf, metWith, raised, tells};
 ghost use Rattle.order.specs.Search.{graphBy, givenBy, Carried, Spreading, Bare, Sought, toldFrom, Settling, ToldBack, readyBy, Searched};

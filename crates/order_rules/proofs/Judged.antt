@@ -1,12 +1,11 @@
 -- The rules in their order, as the code makes them, and what it means that none is broken.
-use mathlib.Core.Path.{_≡_, refl, sym, ap, _∙_}
+use mathlib.Core.Path.{_≡_, sym}
 use mathlib.Core.List.{List, [], _++_}
-use Prim.Native.Nat.{ℕ, _*_, _≤_, _<_}
-use native.Mathlib.Omega.{arith}
+use Prim.Native.Nat.{ℕ, _≤_, _<_}
 use borrow.Author.Tests.{eq-eqb, ne-eqb, eqb-true, not-false, ltb-false}
 use lib.ListN.{getD}
-use Rattle.tables.specs.Table.{Table, Valid}
-use Rattle.rules.specs.Rules.{andThen, judged, winch, tableChecks}
+use Rattle.tables.specs.Table.{Table}
+use Rattle.rules.specs.Rules.{judged, winch, tableChecks}
 use Rattle.rules.specs.declared.Limits.{Limits}
 use Rattle.rules.specs.declared.Verdict.{Verdict}
 use Rattle.rules.specs.declared.Verdict.the-variants.{Fine, Refused}

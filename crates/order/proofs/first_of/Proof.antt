@@ -1,4 +1,4 @@
-use Prim.Native.Nat.{_/_, _*_, _<_}
+use Prim.Native.Nat.{_/_}
 use mathlib.Core.Path.{ap}
 use Rattle.order.proofs.Rows.{row-below, some-rows}
 use native.Mathlib.Omega.{arith}

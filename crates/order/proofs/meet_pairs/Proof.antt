@@ -1,4 +1,4 @@
-use Prim.Native.Nat.{_+_, _-_, _≤_, _<_}
+use Prim.Native.Nat.{_-_, _≤_, _<_}
 use Rattle.ordering.proofs.Pairs.{pairs-inside}
 use Rattle.order.specs.Search.{graphBy, Climbing}
 use Rattle.order.proofs.Levels.{given-after}

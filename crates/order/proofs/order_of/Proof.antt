@@ -1,5 +1,4 @@
 use Rattle.order.proofs.Meeting.{order-second}
-use native.Mathlib.Omega.{arith}
 use borrow.Author.Needs.{needs}
 use Rattle.order.proofs.order_of.Statement.{statement}
 use Rattle.order.proofs.order_of.Tie as tie

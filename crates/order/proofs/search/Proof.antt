@@ -1,5 +1,4 @@
 use Rattle.order.proofs.Answers.{given, at-once, clear-size, bare, sought-size, no-difference, last-in, told-back-to}
-use mathlib.Core.Path.{_≡_}
 use native.Mathlib.Omega.{arith}
 use borrow.Author.Needs.{needs}
 use Rattle.order.proofs.search.Statement.{statement}

@@ -1,7 +1,5 @@
 use Prim.Native.Nat.{_-_, _≤_}
 use Rattle.ordering.proofs.Pairs.{pairs-inside}
-use mathlib.Core.Path.{sym, ap, _∙_}
-use Prim.Native.Nat.{_+_, _*_}
 use Rattle.order.specs.Search.{graphBy, Settling}
 use Rattle.order.proofs.Rows.{pair-bound}
 use Rattle.order.proofs.Settles.{settle-none, settle-pair, settle-other, settle-end}

@@ -1,6 +1,6 @@
 use Prim.Native.Nat.{_-_, _≤_}
-use mathlib.Core.Path.{_≡_, refl, _∙_}
-use lib.ListN.{length, length-set}
+use mathlib.Core.Path.{_≡_, refl}
+use lib.ListN.{length}
 use Rattle.order.specs.Search.{graphBy, Going}
 use Rattle.order.proofs.Events.{going-first, going-event, going-all}
 use native.Mathlib.Omega.{arith}

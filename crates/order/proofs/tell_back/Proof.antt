@@ -1,5 +1,5 @@
 use Prim.Native.Nat.{ℕ, _-_, _≤_, _<_}
-use mathlib.Core.Path.{_≡_, refl}
+use mathlib.Core.Path.{refl}
 use Rattle.ordering.proofs.Pairs.{pairs-inside}
 use Rattle.order.specs.Search.{graphBy, Framed, Told}
 use Rattle.order.proofs.Levels.{given-after, framed-then}
