@@ -15,13 +15,13 @@ use Rattle.tables.specs.Lengths.{distance}
 use Rattle.rules.specs.Rules.{winch, tableOf}
 use Rattle.rules.proofs.Shape.{Shape}
 use Rattle.pairs.specs.Pairs.{triangle, pairAt, workable}
-use Rattle.scratch.specs.Scratch.{lenCell}
+use Rattle.scratch.specs.Scratch.{lenCell, machineBy}
 use Rattle.pairs.proofs.Pairs.{pairs-same, pairs-at, over-pairs-length, over-pairs-drop}
 use Rattle.pairs.proofs.Works.{workable-fine}
 use Rattle.tables.proofs.Counted.{mask-light}
 use Rattle.pairs.proofs.Works.{workable-shape, workable-sound}
 use Rattle.distances.specs.Distances.{distanceCells, measured}
-use Rattle.distances.specs.Search.{eventsBy, machineBy, Given}
+use Rattle.distances.specs.Search.{eventsBy, Given}
 use Rattle.tables.proofs.Symmetry.{distance-turn, distance-self, distance-same}
 
 -- The distance of two rows, in a cell.

@@ -7,16 +7,12 @@ use Prim.Native.Nat.{ℕ, suc, _+_, _-_, _≤_, _<_}
 use lib.Dec.{eqb}
 use lib.ListN.{length, getD, drop}
 use Rattle.automata.specs.Runs.{Events, Machine, Sound, Near}
-use Rattle.tables.specs.Table.{machine, weightBy}
-use Rattle.rules.specs.Rules.{tableOf}
+use Rattle.tables.specs.Table.{weightBy}
 use Rattle.pairs.specs.Pairs.{triangle, pairAt}
 
--- The events and the machine that a search runs. It does not look at the start.
+-- The events that a search runs.
 abbrev pub eventsBy : ℕ → ℕ → Events
 eventsBy mask events = record { count = events; weight = weightBy mask }
-
-abbrev pub machineBy : ℕ → ℕ → List ℕ → List ℕ → Machine
-machineBy rows events cells marks = machine (tableOf rows events 0 cells marks)
 
 -- How many cells are v.
 unfoldable pub occurrences : ℕ → List ℕ → ℕ

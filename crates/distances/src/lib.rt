@@ -11,7 +11,8 @@ ghost use Rattle.tables.specs.Table.{weightBy};
 ghost use Rattle.pairs.specs.Pairs.{pairAt, workable};
 ghost use Rattle.scratch.specs.Tests.{Tested};
 ghost use Rattle.distances.specs.Distances.{distanceCells, measured};
-ghost use Rattle.distances.specs.Search.{eventsBy, machineBy, Fits, Given, Begun, Visited, RowSwept, Swept, Settled, Ready, Risen, Lowered};
+ghost use Rattle.scratch.specs.Scratch.{machineBy};
+ghost use Rattle.distances.specs.Search.{eventsBy, Fits, Given, Begun, Visited, RowSwept, Swept, Settled, Ready, Risen, Lowered};
 
 // level less w, 0 where that is below.
 fn less(level: u16, w: u16) -> u16

@@ -13,13 +13,13 @@ use Rattle.tables.proofs.Counted.{mask-light}
 use Rattle.tables.proofs.Symmetry.{distance-same}
 use Rattle.rules.specs.Rules.{tableOf, winch}
 use Rattle.rules.proofs.Shape.{Shape}
-use Rattle.scratch.specs.Scratch.{lenCell}
+use Rattle.scratch.specs.Scratch.{lenCell, machineBy}
 use Rattle.pairs.specs.Pairs.{triangle, pairAt, workable}
 use Rattle.pairs.proofs.Cells.{pair-greater}
 use Rattle.pairs.proofs.Pairs.{over-pairs}
 use Rattle.pairs.proofs.Works.{workable-fine, workable-shape, workable-sound}
 use Rattle.distances.specs.Distances.{measured}
-use Rattle.distances.specs.Search.{eventsBy, machineBy}
+use Rattle.distances.specs.Search.{eventsBy}
 use Rattle.distances.proofs.Measured.{sound-at-0, measured-not, measured-pair, measured-length, measured-rest}
 use Rattle.measures.specs.Measures.{cellFor}
 use Rattle.first_events.specs.declared.Pass.the-variants.{Ends, Takes, Settles}

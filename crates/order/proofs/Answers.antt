@@ -11,7 +11,7 @@ use Rattle.tables.proofs.Reduced.{sound-of}
 use Rattle.rules.specs.Rules.{tableOf, leftBy}
 use Rattle.rules.specs.declared.Verdict.{Verdict}
 use Rattle.rules.specs.declared.Verdict.the-variants.{Fine, Refused}
-use Rattle.scratch.specs.Scratch.{cleared}
+use Rattle.scratch.specs.Scratch.{cleared, machineBy}
 use Rattle.scratch.proofs.Cells.{cleared-length, cleared-inside, cleared-behind, clear-work}
 use Rattle.ordering.specs.Order.{allEvents, comparison}
 use Rattle.ordering.specs.Found.{numberOf, orderOf, foundAt}
@@ -23,7 +23,7 @@ use Rattle.order_rules.proofs.Judged.{fine-ready}
 use Rattle.order_rules.specs.declared.Ordered.{Ordered}
 use Rattle.order_rules.specs.declared.Ordered.the-variants as ordered
 use Rattle.order.specs.Cells.{lowerOf}
-use Rattle.order.specs.Search.{Framed, Given, Bare, Told, Sought, ToldBack, Searched, eventsIn, machineIn, graphBy}
+use Rattle.order.specs.Search.{Framed, Given, Bare, Told, Sought, ToldBack, Searched, eventsIn, graphBy}
 use Rattle.order.proofs.Levels.{framed-then}
 
 module _ (rows events start : ℕ) (cells marks : List ℕ) (rows2 start2 : ℕ) (cells2 marks2 s : List ℕ)
@@ -44,7 +44,7 @@ module _ (rows events start : ℕ) (cells marks : List ℕ) (rows2 start2 : ℕ)
   abbrev at : ℕ
   at = start * rows2 + start2
 
-  pub given : {t : List ℕ} → length t ≡ length s → Given (eventsIn events) (machineIn rows events cells marks) (machineIn rows2 events cells2 marks2) t
+  pub given : {t : List ℕ} → length t ≡ length s → Given (eventsIn events) (machineBy rows events cells marks) (machineBy rows2 events cells2 marks2) t
   given e = record {
     first = record { start-in = omega (arith, sound .start-in); target-in = sound .target-in };
     second = record { start-in = omega (arith, sound2 .start-in); target-in = sound2 .target-in };

@@ -7,7 +7,7 @@ use Prim.Native.Nat.{ℕ, suc, _+_, _-_, _*_, _≤_, _<_}
 use lib.Dec.{eqb}
 use lib.ListN.{length, getD}
 use Rattle.automata.specs.Runs.{Events, Machine, Sound}
-use Rattle.tables.specs.Table.{machine}
+use Rattle.scratch.specs.Scratch.{machineBy}
 use Rattle.rules.specs.Rules.{tableOf}
 use Rattle.ordering.specs.Order.{comparison}
 use Rattle.ordering.specs.declared.Order.{Order}
@@ -19,13 +19,9 @@ use Rattle.order.specs.Cells.{levelAt, tells}
 abbrev pub eventsIn : ℕ → Events
 eventsIn events = record { count = events; weight = λ a. 1 }
 
--- A table's machine. The search over pairs does not look at its start.
-abbrev pub machineIn : ℕ → ℕ → List ℕ → List ℕ → Machine
-machineIn rows events cells marks = machine (tableOf rows events 0 cells marks)
-
 -- The pairs of rows of two tables over the same events.
 abbrev pub graphBy : ℕ → ℕ → List ℕ → List ℕ → ℕ → List ℕ → List ℕ → Graph
-graphBy rows events cells marks rows2 cells2 marks2 = pairsOf (eventsIn events) (machineIn rows events cells marks) (machineIn rows2 events cells2 marks2)
+graphBy rows events cells marks rows2 cells2 marks2 = pairsOf (eventsIn events) (machineBy rows events cells marks) (machineBy rows2 events cells2 marks2)
 
 -- What every step leans on.
 pub record Given (E : Events) (M N : Machine) (s : List ℕ) : Type 0 where
@@ -34,7 +30,7 @@ pub record Given (E : Events) (M N : Machine) (s : List ℕ) : Type 0 where
   pub room : M .rows * N .rows ≤ length s
 
 abbrev pub givenBy : ℕ → ℕ → List ℕ → List ℕ → ℕ → List ℕ → List ℕ → List ℕ → Type 0
-givenBy rows events cells marks rows2 cells2 marks2 s = Given (eventsIn events) (machineIn rows events cells marks) (machineIn rows2 events cells2 marks2) s
+givenBy rows events cells marks rows2 cells2 marks2 s = Given (eventsIn events) (machineBy rows events cells marks) (machineBy rows2 events cells2 marks2) s
 
 -- Nothing differs but the cells of pairs.
 pub record Framed (G : Graph) (s t : List ℕ) : Type 0 where

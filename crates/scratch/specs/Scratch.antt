@@ -4,10 +4,10 @@ use mathlib.Core.List.{List}
 use Prim.Native.Nat.{ℕ, _+_, _-_, _*_, _/_}
 use lib.Dec.{leb, ltb}
 use lib.ListN.{length, getD, replicate}
-use Rattle.automata.specs.Runs.{Len, len, endless}
+use Rattle.automata.specs.Runs.{Machine, Len, len, endless}
 use Rattle.tables.specs.Lists.{over}
-use Rattle.tables.specs.Table.{Table}
-use Rattle.rules.specs.Rules.{judged, winch, tableChecks}
+use Rattle.tables.specs.Table.{Table, machine}
+use Rattle.rules.specs.Rules.{tableOf, judged, winch, tableChecks}
 use Rattle.rules.specs.declared.Verdict.{Verdict}
 use Rattle.rules.specs.declared.Verdict.the-variants.{Fine, Refused}
 
@@ -40,3 +40,7 @@ fine (Refused number place) = false
 -- A table that breaks none of the rules 1 to 6, and room for the cells that its rows need.
 unfoldable pub workableIn : (ℕ → ℕ) → Table → ℕ → Bool
 workableIn need T room = cond (fine (judged (tableChecks winch T))) (leb (need (T .rows)) room) false
+
+-- A table's machine, as the searches run it: they do not look at its start.
+abbrev pub machineBy : ℕ → ℕ → List ℕ → List ℕ → Machine
+machineBy rows events cells marks = machine (tableOf rows events 0 cells marks)

@@ -5,7 +5,8 @@ use borrow.Author.Tests.{not-true}
 use Rattle.rules.specs.Rules.{tableOf}
 use Rattle.tables.proofs.Counted.{mask-light}
 use Rattle.distances.specs.Distances.{distanceCells}
-use Rattle.distances.specs.Search.{eventsBy, machineBy}
+use Rattle.scratch.specs.Scratch.{machineBy}
+use Rattle.distances.specs.Search.{eventsBy}
 use Rattle.distances.proofs.Rising.{Rising, rising-start, rising-ready, rising-next, rising-early, rising-full}
 use Rattle.distances.proofs.search.Statement.{statement}
 use Rattle.distances.proofs.search.Tie as tie

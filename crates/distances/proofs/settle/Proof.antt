@@ -1,6 +1,7 @@
 use Prim.Native.Nat.{_+_}
 use mathlib.Core.Bool.{cond}
-use Rattle.distances.specs.Search.{eventsBy, machineBy, occurrences}
+use Rattle.scratch.specs.Scratch.{machineBy}
+use Rattle.distances.specs.Search.{eventsBy, occurrences}
 use Rattle.distances.proofs.Moves.{moved-less, Settling, settling-start, settling-next, settling-end}
 use Rattle.distances.proofs.settle.Statement.{statement}
 use Rattle.distances.proofs.settle.Tie as tie

@@ -1,7 +1,8 @@
 use Prim.Native.Nat.{_-_, _≤_}
 use native.Mathlib.Omega.{arith}
 use borrow.Author.Needs.{needs}
-use Rattle.distances.specs.Search.{eventsBy, machineBy, Turned, QuietRows}
+use Rattle.scratch.specs.Scratch.{machineBy}
+use Rattle.distances.specs.Search.{eventsBy, Turned, QuietRows}
 use Rattle.distances.proofs.Moves.{turned-none, turned-map, begun-moved, rows-hit, rows-miss}
 use Rattle.distances.proofs.sweep.Statement.{statement}
 use Rattle.distances.proofs.sweep.Tie as tie

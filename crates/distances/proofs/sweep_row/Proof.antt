@@ -1,6 +1,7 @@
 use Prim.Native.Nat.{_-_, _≤_}
 use native.Mathlib.Omega.{arith}
-use Rattle.distances.specs.Search.{eventsBy, machineBy, Turned, QuietRow}
+use Rattle.scratch.specs.Scratch.{machineBy}
+use Rattle.distances.specs.Search.{eventsBy, Turned, QuietRow}
 use Rattle.distances.proofs.Moves.{turned-none, turned-map, begun-moved, row-hit, row-miss}
 use Rattle.distances.proofs.sweep_row.Statement.{statement}
 use Rattle.distances.proofs.sweep_row.Tie as tie

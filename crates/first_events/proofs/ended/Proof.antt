@@ -3,7 +3,8 @@ use mathlib.Core.List.{List}
 use Prim.Native.Nat.{ℕ}
 use Rattle.tables.specs.Table.{markOf}
 use Rattle.pairs.specs.Pairs.{pairAt}
-use Rattle.distances.specs.Search.{eventsBy, machineBy}
+use Rattle.scratch.specs.Scratch.{machineBy}
+use Rattle.distances.specs.Search.{eventsBy}
 use Rattle.first_events.proofs.Turns.{ended-other, ended-alike, ended-now}
 use borrow.Author.Needs.{needs}
 use Rattle.first_events.proofs.ended.Statement.{statement}

@@ -2,7 +2,8 @@ use Prim.Native.Nat.{ℕ, _-_, _≤_, _<_}
 use native.Mathlib.Omega.{arith}
 use borrow.Author.Count.{below-more}
 use Rattle.pairs.specs.Pairs.{pairAt}
-use Rattle.distances.specs.Search.{eventsBy, machineBy}
+use Rattle.scratch.specs.Scratch.{machineBy}
+use Rattle.distances.specs.Search.{eventsBy}
 use Rattle.first_events.specs.Passes.{Ready}
 use Rattle.first_events.proofs.first_ready.Statement.{statement}
 use Rattle.first_events.proofs.first_ready.Tie as tie

@@ -1,5 +1,6 @@
 use Rattle.pairs.specs.Pairs.{pairAt}
-use Rattle.distances.specs.Search.{eventsBy, machineBy}
+use Rattle.scratch.specs.Scratch.{machineBy}
+use Rattle.distances.specs.Search.{eventsBy}
 use Rattle.first_events.proofs.Turns.{led-right, ready-not, ready-test}
 use borrow.Author.Needs.{needs}
 use Rattle.first_events.proofs.ready.Statement.{statement}

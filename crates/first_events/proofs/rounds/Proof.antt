@@ -4,7 +4,8 @@ use native.Mathlib.Omega.{arith}
 use borrow.Author.Tests.{not-true, not-false}
 use Rattle.tables.proofs.Counted.{mask-light}
 use Rattle.rules.specs.Rules.{tableOf}
-use Rattle.distances.specs.Search.{eventsBy, machineBy}
+use Rattle.scratch.specs.Scratch.{machineBy}
+use Rattle.distances.specs.Search.{eventsBy}
 use Rattle.first_events.specs.Rounds.{Framed, Reached}
 use Rattle.first_events.proofs.Whole.{framed-none, framed-then, given-framed, reached-at, rounds-last, rounds-all}
 use borrow.Author.Needs.{needs}

@@ -3,7 +3,8 @@ use mathlib.Core.Path.{_≡_, refl, ap}
 use native.Mathlib.Omega.{arith}
 use borrow.Author.Needs.{needs}
 use Rattle.pairs.specs.Pairs.{triangle}
-use Rattle.distances.specs.Search.{eventsBy, machineBy}
+use Rattle.scratch.specs.Scratch.{machineBy}
+use Rattle.distances.specs.Search.{eventsBy}
 use Rattle.first_events.specs.Passes.{Swept}
 use Rattle.first_events.proofs.Sweeps.{triangle-more, swept-none, swept-to, swept-hit, swept-miss}
 use Rattle.first_events.proofs.sweep.Statement.{statement}

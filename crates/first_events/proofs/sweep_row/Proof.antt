@@ -1,7 +1,8 @@
 use Prim.Native.Nat.{_+_, _-_, _≤_}
 use native.Mathlib.Omega.{arith}
 use Rattle.pairs.specs.Pairs.{triangle}
-use Rattle.distances.specs.Search.{eventsBy, machineBy}
+use Rattle.scratch.specs.Scratch.{machineBy}
+use Rattle.distances.specs.Search.{eventsBy}
 use Rattle.first_events.specs.Passes.{Swept}
 use Rattle.first_events.proofs.Sweeps.{swept-none, swept-to, swept-one, swept-hit, swept-miss}
 use Rattle.first_events.proofs.sweep_row.Statement.{statement}

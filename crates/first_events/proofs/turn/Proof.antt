@@ -1,6 +1,7 @@
 use mathlib.Core.Path.{sym, subst}
 use Rattle.pairs.specs.Pairs.{pairAt}
-use Rattle.distances.specs.Search.{eventsBy, machineBy}
+use Rattle.scratch.specs.Scratch.{machineBy}
+use Rattle.distances.specs.Search.{eventsBy}
 use Rattle.first_events.specs.declared.Pass.{Pass}
 use Rattle.first_events.specs.Passes.{Turned}
 use borrow.Author.Needs.{needs}

@@ -4,7 +4,8 @@ use native.Mathlib.Omega.{arith}
 use Rattle.pairs.specs.Pairs.{triangle}
 use Rattle.pairs.proofs.Triangle.{triangle-bound}
 use Rattle.pairs.proofs.RowStarts.{start-right}
-use Rattle.distances.specs.Search.{eventsBy, machineBy}
+use Rattle.scratch.specs.Scratch.{machineBy}
+use Rattle.distances.specs.Search.{eventsBy}
 use Rattle.first_events.proofs.Sweeps.{read-at, visited-same, visited-new}
 use borrow.Author.Needs.{needs}
 use Rattle.first_events.proofs.visit.Statement.{statement}

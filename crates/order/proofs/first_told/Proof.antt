@@ -3,8 +3,9 @@ use mathlib.Core.Path.{_≡_, sym, _∙_}
 use borrow.Author.Count.{below-more}
 use lib.ListN.{getD}
 use Rattle.ordering.proofs.Found.{found-none, found-at}
+use Rattle.scratch.specs.Scratch.{machineBy}
 use Rattle.order.specs.Cells.{tells}
-use Rattle.order.specs.Search.{eventsIn, machineIn, graphBy}
+use Rattle.order.specs.Search.{eventsIn, graphBy}
 use Rattle.order.proofs.Events.{tells-step}
 use native.Mathlib.Omega.{arith}
 use Rattle.order.proofs.first_told.Statement.{statement}
@@ -23,14 +24,14 @@ returns : tie.Need-returns Inv-loop μ-loop
 returns c =
     let a = c .before .before .before .before .before .before .before .before .before .before .before .before .before .before .before .args in
     let l = c .before .before .before .before .before .before .before .loop in
-    let e = tells-step (eventsIn (a .events)) (machineIn (a .rows) (a .events) (a .cells .now) (a .marks .now)) (machineIn (a .rows2) (a .events) (a .cells2 .now) (a .marks2 .now)) (a .k) (l .event) (c .before .before .before .before .before .before .before .before .before .first-of .ensures) (c .before .before .before .before .before .before .before .before .second-of .ensures) (c .before .before .before .before .before .target .ensures) (c .before .before .before .before .target2 .ensures) (a .scratch .now) (a .level) (c .before .before .before .place .ensures) (c .before .before .cell .ensures) (c .before .told-at .ensures .0) in
+    let e = tells-step (eventsIn (a .events)) (machineBy (a .rows) (a .events) (a .cells .now) (a .marks .now)) (machineBy (a .rows2) (a .events) (a .cells2 .now) (a .marks2 .now)) (a .k) (l .event) (c .before .before .before .before .before .before .before .before .before .first-of .ensures) (c .before .before .before .before .before .before .before .before .second-of .ensures) (c .before .before .before .before .before .target .ensures) (c .before .before .before .before .target2 .ensures) (a .scratch .now) (a .level) (c .before .before .before .place .ensures) (c .before .before .cell .ensures) (c .before .told-at .ensures .0) in
     (e ∙ sym (found-at (a .events) _ (l .event) (c .before .before .before .before .before .before .loop-test .taken) (l .inv .1) (λ z. c .if1 .taken (e ∙ z))), c .before .told-at .ensures .1)
 
 loop-again : tie.Need-loop-again Inv-loop μ-loop
 loop-again c =
     let a = c .before .before .before .before .before .before .before .before .before .before .before .before .before .before .before .args in
     let l = c .before .before .before .before .before .before .before .loop in
-    let e = tells-step (eventsIn (a .events)) (machineIn (a .rows) (a .events) (a .cells .now) (a .marks .now)) (machineIn (a .rows2) (a .events) (a .cells2 .now) (a .marks2 .now)) (a .k) (l .event) (c .before .before .before .before .before .before .before .before .before .first-of .ensures) (c .before .before .before .before .before .before .before .before .second-of .ensures) (c .before .before .before .before .before .target .ensures) (c .before .before .before .before .target2 .ensures) (a .scratch .now) (a .level) (c .before .before .before .place .ensures) (c .before .before .cell .ensures) (c .before .told-at .ensures .0) in
+    let e = tells-step (eventsIn (a .events)) (machineBy (a .rows) (a .events) (a .cells .now) (a .marks .now)) (machineBy (a .rows2) (a .events) (a .cells2 .now) (a .marks2 .now)) (a .k) (l .event) (c .before .before .before .before .before .before .before .before .before .first-of .ensures) (c .before .before .before .before .before .before .before .before .second-of .ensures) (c .before .before .before .before .before .target .ensures) (c .before .before .before .before .target2 .ensures) (a .scratch .now) (a .level) (c .before .before .before .place .ensures) (c .before .before .cell .ensures) (c .before .told-at .ensures .0) in
     (omega arith, below-more _ _ (l .inv .1) (sym e ∙ omega (arith, c .if1 .left)))
 
 returns-2 : tie.Need-returns-2 Inv-loop μ-loop
