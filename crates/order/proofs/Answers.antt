@@ -17,7 +17,8 @@ use Rattle.ordering.specs.Order.{allEvents, comparison}
 use Rattle.ordering.specs.Found.{numberOf, orderOf, foundAt}
 use Rattle.ordering.specs.declared.Order.{Order}
 use Rattle.ordering.specs.declared.Order.the-variants.{Equal}
-use Rattle.ordering.proofs.Pairs.{order-number, pair-equal, pair-told}
+use Rattle.ordering.proofs.First.{order-number}
+use Rattle.ordering.proofs.Pairs.{pair-equal, pair-told}
 use Rattle.order_rules.specs.Checks.{pairCells, verdict, answerBy, Ready}
 use Rattle.order_rules.proofs.Judged.{fine-ready}
 use Rattle.order_rules.specs.declared.Ordered.{Ordered}

@@ -10,7 +10,8 @@ use lib.ListN.{length, getD, set, length-set}
 use lib.Seq.{getD-set-same, getD-set-other}
 use Rattle.automata.proofs.Tests.{last-or-less}
 use Rattle.ordering.specs.Found.{Graph, Inside, foundAt}
-use Rattle.ordering.proofs.Found.{found-same, found-back, met-same}
+use Rattle.ordering.proofs.First.{found-same}
+use Rattle.ordering.proofs.Found.{found-back, met-same}
 use Rattle.order.specs.Cells.{levelAt, tells}
 use Rattle.order.specs.Search.{Framed, toldFrom, settledTo, Settling, Told}
 

@@ -1,18 +1,18 @@
 -- `comparedRows` says which mark is the lower after the first difference, or that there is none.
 use mathlib.Core.Path.{_≡_, refl, sym, ap, subst, _∙_}
 use mathlib.Core.List.{List, [], _∷_}
-use mathlib.Core.Logic.{_⊎_, inl, inr}
+use mathlib.Core.Logic.{inl, inr}
 use Prim.Native.Nat.{ℕ, zero, suc, _+_, _<_}
 use native.Mathlib.Omega.{arith}
 use lib.ListN.{length}
 use borrow.Author.Tests.{lt-ltb, le-ltb}
 use Rattle.automata.specs.Runs.{Events, Machine, Sound, Light, Run, after, Near}
-use Rattle.automata.proofs.Tests.{last-or-less}
 use Rattle.chosen.specs.Choice.{Lower}
 use Rattle.chosen.proofs.Orders.{compare}
-use Rattle.ordering.specs.Order.{SameMarks, FirstDifference, byMarks, orElse, firstTold, comparedAt, comparedRows}
+use Rattle.ordering.specs.Order.{SameMarks, FirstDifference, byMarks, comparedAt, comparedRows}
 use Rattle.ordering.specs.declared.Order.{Order}
 use Rattle.ordering.specs.declared.Order.the-variants.{First, Equal, Second}
+use Rattle.ordering.proofs.First.{told-none, told-at}
 use Rattle.ordering.proofs.Search.{first-one, first-or-none}
 
 -- ---- marks
@@ -49,27 +49,6 @@ marks-tell x y h e = elim (compare x y) [
   | inl l ↦ first-equal (marks-first x y l) e
   | inr r ↦ elim r [ inl g ↦ h g | inr l ↦ second-equal (marks-second x y l) e ]
 ]
-
--- ---- the first that is not equal
-
-pub told-none : (f : ℕ → Order) (c : ℕ) → ((b : ℕ) → b < c → f b ≡ Equal) → firstTold c f ≡ Equal
-unfolding firstTold
-told-none f zero h = refl
-told-none f (suc c) h = rw (told-none f c (λ b l. h b (omega arith))) (h c (omega arith))
-
-pub told-at : (f : ℕ → Order) (a c : ℕ) → a < c → ((b : ℕ) → b < a → f b ≡ Equal) → ¬ (f a ≡ Equal) → firstTold c f ≡ f a
-unfolding firstTold
-told-at f a zero h low tell = absurd (omega arith)
-told-at f a (suc c) h low tell = pick (last-or-less a c h) (λ g. told-at f a c g low tell)
-  where
-    on : (x y z : Order) → x ≡ z → ¬ (z ≡ Equal) → orElse x y ≡ z
-    on First y z e n = e
-    on Equal y z e n = absurd (n (sym e))
-    on Second y z e n = e
-
-    pick : (a ≡ c) ⊎ (a < c) → (a < c → firstTold c f ≡ f a) → orElse (firstTold c f) (f c) ≡ f a
-    pick (inl e) ih = rw (told-none f c (λ b l. low b (omega arith))) (ap f (sym e))
-    pick (inr g) ih = on (firstTold c f) (f c) (f a) (ih g) tell
 
 -- ---- rows
 module _ (E : Events) (M N : Machine) where

@@ -1,47 +1,11 @@
 -- Laws of the search over a graph: which places are met level by level, and what the last level tells of those before it.
-use mathlib.Core.Path.{_≡_, refl, sym, ap, subst, _∙_}
+use mathlib.Core.Path.{_≡_, sym, ap, subst, _∙_}
+use mathlib.Core.Logic.{_⊎_, inl, inr}
 use Prim.Native.Nat.{ℕ, zero, suc, _+_, _-_, _≤_, _<_}
 use native.Mathlib.Omega.{arith}
 use native.Mathlib.Decide.{ℕ-discrete, decLt}
-use Rattle.automata.proofs.Tests.{last-or-less}
-use mathlib.Core.Logic.{_⊎_, inl, inr}
-use Rattle.ordering.specs.Found.{Graph, Inside, nonzero, firstFound, foundAt, Met, Wider}
-
--- ---- the first that is not 0
-
-pub found-none : (c : ℕ) (f : ℕ → ℕ) → ((a : ℕ) → a < c → f a ≡ 0) → firstFound c f ≡ 0
-unfolding firstFound
-found-none zero f h = refl
-found-none (suc c) f h = rw (found-none c f (λ a l. h a (omega arith))) (h c (omega arith))
-
-pub found-same : (c : ℕ) (f g : ℕ → ℕ) → ((a : ℕ) → a < c → f a ≡ g a) → firstFound c f ≡ firstFound c g
-unfolding firstFound
-found-same zero f g h = refl
-found-same (suc c) f g h = rw (found-same c f g (λ a l. h a (omega arith)), h c (omega arith)) refl
-
--- One more that is not 0, or that comes behind one that is not.
-pub found-some : (c : ℕ) (f : ℕ → ℕ) (a : ℕ) → a < c → ¬ (f a ≡ 0) → ¬ (firstFound c f ≡ 0)
-unfolding firstFound
-found-some zero f a h n = absurd (omega arith)
-found-some (suc c) f a h n = pick (firstFound c f) (last-or-less a c h) (λ l. found-some c f a l n)
-  where
-    pick : (x : ℕ) → (a ≡ c) ⊎ (a < c) → (a < c → ¬ (x ≡ 0)) → ¬ (nonzero x (f c) ≡ 0)
-    pick (suc x) d ih e = omega arith
-    pick zero (inl e) ih g = n (ap f e ∙ g)
-    pick zero (inr l) ih g = ih l refl
-
-pub found-at : (c : ℕ) (f : ℕ → ℕ) (a : ℕ) → a < c → ((b : ℕ) → b < a → f b ≡ 0) → ¬ (f a ≡ 0) → firstFound c f ≡ f a
-unfolding firstFound
-found-at zero f a h low n = absurd (omega arith)
-found-at (suc c) f a h low n = pick (last-or-less a c h) (λ l. found-at c f a l low n)
-  where
-    on : (x y z : ℕ) → x ≡ z → ¬ (z ≡ 0) → nonzero x y ≡ z
-    on zero y z e t = absurd (t (sym e))
-    on (suc x) y z e t = e
-
-    pick : (a ≡ c) ⊎ (a < c) → (a < c → firstFound c f ≡ f a) → nonzero (firstFound c f) (f c) ≡ f a
-    pick (inl e) ih = rw (found-none c f (λ b l. low b (omega arith))) (ap f (sym e))
-    pick (inr l) ih = on (firstFound c f) (f c) (f a) (ih l) n
+use Rattle.ordering.specs.Found.{Graph, Inside, firstFound, foundAt, Met, Wider}
+use Rattle.ordering.proofs.First.{found-none, found-same, found-some}
 
 module _ {G : Graph} {start L : ℕ} {level : ℕ → ℕ} (g : Met G start L level) (inside : Inside G) where
   -- Where nothing is told up to a level H, no run that stays within it finds anything.

@@ -1,4 +1,5 @@
 pub mod Runs
+pub mod First
 pub mod Search
 pub mod Compared
 pub mod Theorems

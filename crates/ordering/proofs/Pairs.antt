@@ -1,41 +1,14 @@
 -- The search over pairs of rows finds the order.
-use mathlib.Core.Path.{_≡_, refl, sym, ap, ap₂, _∙_}
+use mathlib.Core.Path.{_≡_, sym, ap, ap₂, _∙_}
 use Prim.Native.Nat.{ℕ, zero, suc, _+_, _*_, _/_, _%_, _<_}
 use native.Mathlib.Omega.{arith}
 use native.Mathlib.Nat.{div-lt-iff-lt-mul, mod-lt}
 use lib.Arith.{digits-lt, digits-div, digits-mod}
 use Rattle.automata.specs.Runs.{Events, Machine, Sound}
-use Rattle.ordering.specs.Order.{byMarks, orElse, firstTold, comparedAt, comparedRows}
-use Rattle.ordering.specs.Found.{Inside, numberOf, orderOf, pairsOf, nonzero, firstFound, foundAt}
-use Rattle.ordering.specs.declared.Order.{Order}
-use Rattle.ordering.specs.declared.Order.the-variants.{First, Equal, Second}
-use Rattle.ordering.proofs.Compared.{told-none, told-at}
-use Rattle.ordering.proofs.Found.{found-same}
-
--- ---- orders as numbers
-
-pub order-number : (x : Order) → orderOf (numberOf x) ≡ x
-order-number First = refl
-order-number Equal = refl
-order-number Second = refl
-
-pub number-small : (x : Order) → numberOf x < 3
-number-small First = omega arith
-number-small Equal = omega arith
-number-small Second = omega arith
-
-equal-zero : (x : Order) → numberOf x ≡ 0 → x ≡ Equal
-equal-zero x e = sym (order-number x) ∙ ap orderOf e
-
-number-else : (x y : Order) → numberOf (orElse x y) ≡ nonzero (numberOf x) (numberOf y)
-number-else First y = refl
-number-else Equal y = refl
-number-else Second y = refl
-
-number-told : (c : ℕ) (f : ℕ → Order) → numberOf (firstTold c f) ≡ firstFound c (λ a. numberOf (f a))
-unfolding firstTold firstFound
-number-told zero f = refl
-number-told (suc c) f = number-else (firstTold c f) (f c) ∙ ap (λ (x : ℕ). nonzero x (numberOf (f c))) (number-told c f)
+use Rattle.ordering.specs.Order.{byMarks, comparedAt, comparedRows}
+use Rattle.ordering.specs.Found.{Inside, numberOf, pairsOf, foundAt}
+use Rattle.ordering.specs.declared.Order.the-variants.{Equal}
+use Rattle.ordering.proofs.First.{found-same, equal-zero, number-told, told-none, told-at}
 
 -- ---- pairs of rows
 module _ {E : Events} {M N : Machine} (s : Sound E M) (t : Sound E N) where

@@ -2,7 +2,7 @@ use Prim.Native.Nat.{ℕ, suc, _-_, _≤_, _<_}
 use mathlib.Core.Path.{_≡_, sym, _∙_}
 use borrow.Author.Count.{below-more}
 use lib.ListN.{getD}
-use Rattle.ordering.proofs.Found.{found-none, found-at}
+use Rattle.ordering.proofs.First.{found-none, found-at}
 use Rattle.scratch.specs.Scratch.{machineBy}
 use Rattle.order.specs.Cells.{tells}
 use Rattle.order.specs.Search.{eventsIn, graphBy}

@@ -1,4 +1,4 @@
-use Rattle.ordering.proofs.Pairs.{number-small}
+use Rattle.ordering.proofs.First.{number-small}
 use Rattle.ordering.specs.Order.{byMarks}
 use Rattle.tables.specs.Table.{markOf}
 use Rattle.order.specs.Cells.{lowerOf}
