@@ -5,7 +5,7 @@ use mathlib.Core.List.{List}
 use mathlib.Core.Logic.{inl, inr}
 use Prim.Native.Nat.{ℕ, ◌+◌, ◌≤◌, ◌<◌}
 use native.Mathlib.Omega.{arith}
-use borrow.Author.Tests.{not_true, not-false}
+use borrow.Author.Tests.{not-true, not-false}
 use lib.ListN.{length, get_or, take, drop}
 use Rattle.automata.proofs.Tests.{either}
 use Rattle.tables.specs.Lists.{over}
@@ -33,7 +33,7 @@ module _ (mask : ℕ) (T : Table) (s : List ℕ) where
   -- As the code answers, by r: whether the table can be worked on.
   pub plumbed-refused : {r : Bool} → r ≡ workable T (length s) → not r ≡ true → (false ≡ workable T (length s)) × (s ≡ plumbed mask T s)
   plumbed-refused {r} e t =
-      let f : workable T (length s) ≡ false = sym e ∙ not_true r t in
+      let f : workable T (length s) ≡ false = sym e ∙ not-true r t in
       (sym f, sym (plumbed-not f))
 
   pub plumbed_done : {r : Bool} {s' : List ℕ} → r ≡ workable T (length s) → not r ≡ false → s' ≡ over s (leads_at T.rows) leads

@@ -5,7 +5,7 @@ use mathlib.Core.List.{List}
 use mathlib.Core.Logic.{inl, inr}
 use Prim.Native.Nat.{ℕ, ◌≤◌, ◌<◌}
 use native.Mathlib.Omega.{arith}
-use borrow.Author.Tests.{not_true, not-false}
+use borrow.Author.Tests.{not-true, not-false}
 use lib.ListN.{length, drop}
 use Rattle.automata.specs.Runs.{Sound}
 use Rattle.automata.proofs.Tests.{either}
@@ -86,7 +86,7 @@ module _ (mask : ℕ) (T : Table) (s : List ℕ) where
 module _ (mask rows events start : ℕ) (cells marks s : List ℕ) (v : Bool) (test : v ≡ workable (table_of rows events start cells marks) (length s)) where
   pub refused : not v ≡ true → (false ≡ workable (table_of rows events start cells marks) (length s)) × (s ≡ measured mask (table_of rows events start cells marks) s)
   refused e =
-      let w = sym test ∙ not_true v e in
+      let w = sym test ∙ not-true v e in
       (sym w, sym (measured-not mask (table_of rows events start cells marks) s w))
 
   module _ (e : not v ≡ false) where

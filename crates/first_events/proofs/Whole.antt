@@ -4,7 +4,7 @@ use mathlib.Core.Bool.{Bool, true, false, not, true≢false, false≢true}
 use mathlib.Core.List.{List}
 use Prim.Native.Nat.{ℕ, ◌+◌, ◌-◌, ◌≤◌, ◌<◌}
 use native.Mathlib.Omega.{arith}
-use borrow.Author.Tests.{not_true, not-false}
+use borrow.Author.Tests.{not-true, not-false}
 use lib.ListN.{length, drop}
 use Rattle.automata.specs.Runs.{Events, Machine, Sound, Light}
 use Rattle.tables.specs.Lists.{over}
@@ -98,7 +98,7 @@ module _ (mask rows events start : ℕ) (cells marks s : List ℕ) where
 
   module _ (v : Bool) (test : v ≡ workable T (length s)) where
     pub refused : not v ≡ true → {t : List ℕ} → t ≡ measured mask T s → (false ≡ workable T (length s)) × (t ≡ told mask T s)
-    refused e h = let w = sym test ∙ not_true v e in (sym w, h ∙ measured-not mask T s w ∙ sym (told-not mask T s w))
+    refused e h = let w = sym test ∙ not-true v e in (sym w, h ∙ measured-not mask T s w ∙ sym (told-not mask T s w))
 
     module _ (e : not v ≡ false) where
       passed : workable T (length s) ≡ true

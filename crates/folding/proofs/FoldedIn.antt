@@ -4,7 +4,7 @@ use mathlib.Core.Bool.{Bool, true, false, not}
 use mathlib.Core.List.{List, []}
 use Prim.Native.Nat.{ℕ, ◌+◌, ◌-◌, ◌≤◌, ◌<◌}
 use native.Mathlib.Omega.{arith}
-use borrow.Author.Tests.{not_true, not-false, le-ltb}
+use borrow.Author.Tests.{not-true, not-false, le-ltb}
 use lib.ListN.{length, get_or, replicate, length-replicate}
 use Rattle.automata.specs.Runs.{Events, Machine}
 use Rattle.tables.specs.Lists.{tabulate, over}
@@ -146,7 +146,7 @@ module _ (mask : ℕ) (k : Offset) (T : Table) (s : List ℕ) where
 module _ (mask : ℕ) (k : Offset) (T : Table) (s l : List ℕ) (r : Bool) (test : r ≡ workable T (length s)) (found : l ≡ lengths_in mask T s) where
   pub refuses : not r ≡ true → (false ≡ workable T (length s)) × (l ≡ folded_in mask k T s)
   refuses e =
-      let w = sym test ∙ not_true r e in
+      let w = sym test ∙ not-true r e in
       (sym w, found ∙ lengths-not mask T s w ∙ sym (folded-not mask k T s w))
 
   module _ (e : not r ≡ false) where

@@ -4,7 +4,7 @@ use mathlib.Core.Bool.{Bool, true, false, not}
 use mathlib.Core.List.{List}
 use Prim.Native.Nat.{ℕ, ◌+◌, ◌-◌, ◌≤◌, ◌<◌}
 use native.Mathlib.Omega.{arith}
-use borrow.Author.Tests.{not_true, not-false}
+use borrow.Author.Tests.{not-true, not-false}
 use lib.ListN.{length, get_or, drop}
 use lib.Seq.{get_or-take, get_or-drop}
 use Rattle.automata.specs.Runs.{Events, Machine}
@@ -70,7 +70,7 @@ module _ (mask : ℕ) (T : Table) (s : List ℕ) where
 module _ (mask : ℕ) (T : Table) (s d : List ℕ) (r : Bool) (test : r ≡ workable T (length s)) (found : d ≡ told mask T s) where
   pub refuses : not r ≡ true → (false ≡ workable T (length s)) × (d ≡ lengths_in mask T s)
   refuses e =
-      let w = sym test ∙ not_true r e in
+      let w = sym test ∙ not-true r e in
       (sym w, found ∙ told-not mask T s w ∙ sym (lengths-not mask T s w))
 
   pub finds : not r ≡ false → {l : List ℕ} → l ≡ plumbed mask T d → (true ≡ workable T (length s)) × (l ≡ lengths_in mask T s)

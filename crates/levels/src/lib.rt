@@ -1,3 +1,4 @@
+#![tactic(auto)]
 // Reduction by levels of nearness: which rows are kept at which offset, and how rows fold level by level. The definitions are in specs/, the laws in proofs/; the
 // code reads levels off the cells in which lengths stand.
 ghost use Rattle.std.specs.Prelude.{◌≡◌};

@@ -1,3 +1,4 @@
+#![tactic(auto)]
 // Lines of text in a lent buffer: two numbers, the first line for a table, and a refusal.
 ghost use Rattle.text.specs.Text.{Puts};
 ghost use Rattle.lines.specs.Lines.{pair_line, head_line, refusal_line};

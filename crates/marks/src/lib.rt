@@ -1,3 +1,4 @@
+#![tactic(auto)]
 // Marks in packed bytes: row r has the bit worth 2^(r mod 8) in byte r div 8; set means ready.
 ghost use Rattle.std.specs.Prelude.{◌≡◌, cond, eqb};
 ghost use Rattle.tables.specs.Table.{mark_byte_count, mark_of};

@@ -1,3 +1,4 @@
+#![tactic(auto)]
 // The order of tables: the definitions are in specs/, the theorems in proofs/.
 
 // Which of two tables comes first; equal if no run tells them apart.

@@ -5,7 +5,7 @@ use mathlib.Core.List.{List}
 use mathlib.Core.Logic.{◌⊎◌, ⊎_elim}
 use Prim.Native.Nat.{ℕ, ◌+◌, ◌*◌, ◌≤◌, ◌<◌}
 use native.Mathlib.Omega.{arith}
-use borrow.Author.Tests.{eqb-false, not_true, not-false}
+use borrow.Author.Tests.{eqb-false, not-true, not-false}
 use lib.Dec.{eqb}
 use lib.ListN.{length, get_or}
 use lib.Seq.{get_or-take}
@@ -58,7 +58,7 @@ Answered T X s t r =
 module _ (mask : ℕ) (T : Table) {s t₁ : List ℕ} {r : Bool} (e : r ≡ workable_in few_cells T (length s)) where
   pub refused : {X : Type 0} → (r ≡ false → t₁ ≡ s) → not r ≡ true → Answered T X s t₁ false
   refused same h =
-      let f = not_true r h in
+      let f = not-true r h in
       let z = same f in
       (sym f ∙ e, λ g. absurd (false≢true g), λ g. z, ap length z, λ i l. ap (λ (y : List ℕ). get_or y i 0) z)
 

@@ -1,3 +1,4 @@
+#![tactic(auto)]
 // Where each row of the triangle of pairs begins, as a stored table.
 ghost use Rattle.std.specs.Prelude.{◌≡◌};
 ghost use Rattle.row_starts.specs.RowStarts.{starts_of_rows};

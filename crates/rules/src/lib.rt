@@ -1,3 +1,4 @@
+#![tactic(auto)]
 // The rules by which a given table is refused, in the order in which calls check them.
 ghost use Rattle.std.specs.Prelude.{◌≡◌, false, [], ◌∷◌, ◌≤◌};
 ghost use Rattle.rules.specs.Rules.{winch as winch_limits, judged, mask_rule, shape_checks, content_checks, table_checks, masked_checks, table_of, first_outside_at, outside};

@@ -2,7 +2,7 @@
 use mathlib.Core.Path.{◌≡◌, refl, sym, ap, ◌∙◌}
 use mathlib.Core.Bool.{Bool, true, false, not, cond, false≢true}
 use Prim.Native.Nat.{ℕ, ◌≤◌, ◌<◌}
-use borrow.Author.Tests.{not_true, not-false, leb-true, le-leb}
+use borrow.Author.Tests.{not-true, not-false, leb-true, le-leb}
 use lib.Dec.{leb}
 use lib.ListN.{get_or}
 use Rattle.tables.specs.Table.{Table, Valid}
@@ -40,7 +40,7 @@ module _ (T : Table) (valid : Bool) (e : valid ≡ fine (judged (table_checks wi
 
   pub not-fine : not valid ≡ true → (need : ℕ → ℕ) (room : ℕ) → workable_in need T room ≡ false
   unfolding workable_in
-  not-fine h need room = ap (λ (b : Bool). cond b (leb (need T.rows) room) false) (sym e ∙ not_true valid h)
+  not-fine h need room = ap (λ (b : Bool). cond b (leb (need T.rows) room) false) (sym e ∙ not-true valid h)
 
   pub fine-room : not valid ≡ false → (need : ℕ → ℕ) (n room : ℕ) → n ≡ need T.rows → workable_in need T room ≡ leb n room
   unfolding workable_in

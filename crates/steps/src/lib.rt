@@ -1,3 +1,4 @@
+#![tactic(auto)]
 // Steps from row to row as signed bytes: "a signed byte, target minus own row".
 ghost use Rattle.std.specs.Prelude.{◌≡◌};
 ghost use Rattle.steps.specs.Steps.{step_of, byte_of_step, step_of_byte, landing as landing_of};

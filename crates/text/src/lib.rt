@@ -1,3 +1,4 @@
+#![tactic(auto)]
 // Text as bytes in a lent buffer. Each function writes from a place on, as far as there is room, and answers the place after what it wrote.
 ghost use Rattle.std.specs.Prelude.{[], ◌∷◌};
 ghost use Rattle.text.specs.Text.{decimal, Puts};

@@ -1,3 +1,4 @@
+#![tactic(auto)]
 // Which events count, by a mask of 32 bits: what an event adds to the length of a run, bits that belong to no event, and how many events count.
 ghost use Rattle.std.specs.Prelude.{◌≡◌};
 ghost use Rattle.tables.specs.Table.{weight_by};

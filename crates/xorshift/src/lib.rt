@@ -1,3 +1,4 @@
+#![tactic(auto)]
 // Marsaglia's xorshift of 32 bits.
 ghost use Rattle.std.specs.Prelude.{◌≡◌};
 ghost use Rattle.xorshift.specs.Xorshift.{step as step_of};

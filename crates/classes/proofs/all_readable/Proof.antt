@@ -4,7 +4,7 @@ use mathlib.Core.Bool.{true≢false, false≢true}
 use native.Mathlib.Omega.{arith}
 use borrow.Author.Rules.{rules}
 use borrow.Author.Count.{below_more}
-use borrow.Author.Tests.{not_true, not-false}
+use borrow.Author.Tests.{not-true, not-false}
 use Rattle.splitting.specs.Places.{front}
 use Rattle.classes.specs.Values.{row_in, Reads}
 use Rattle.classes.proofs.Reading.{row_is}
@@ -29,7 +29,7 @@ returns c =
     let a = c.before.before.before.before.before.before.before.before.args in
     record {
       holds = λ e. absurd (false≢true e);
-      fails = λ e all. c.before.readable.ensures.fails (not_true _ c.if1.true) (subst (Reads a.n a.m a.to a.cells.now a.scratch.now) (sym (row c.before.before)) (all c.before.before.before.before.before.loop.i c.before.before.before.before.loop-test.true));
+      fails = λ e all. c.before.readable.ensures.fails (not-true _ c.if1.true) (subst (Reads a.n a.m a.to a.cells.now a.scratch.now) (sym (row c.before.before)) (all c.before.before.before.before.before.loop.i c.before.before.before.before.loop-test.true));
     }
 
 loop-again : tie.Need-loop-preserved invariant-loop decreases-loop

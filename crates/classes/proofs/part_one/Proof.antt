@@ -1,6 +1,6 @@
 use mathlib.Core.Path.{refl, sym, ap, ◌∙◌}
 use Prim.Native.Nat.{ℕ, ◌-◌}
-use borrow.Author.Tests.{not_true, not-false}
+use borrow.Author.Tests.{not-true, not-false}
 use lib.Dec.{eqb}
 use Rattle.splitting.specs.Places.{front}
 use Rattle.classes.specs.Values.{lead_to}
@@ -14,7 +14,7 @@ returns : tie.Need-returns
 returns c = stays (λ g. omega (arith, c.if1.true, c.before.wide.ensures, g.0)) refl refl
 
 returns-2 : tie.Need-returns-2
-returns-2 c = let a = c.before.before.before.before.before.before.before.before.before.args in stays (λ g. c.before.same-is.ensures.fails (not_true _ c.if2.true) (ap (λ (x : ℕ). eqb x a.v) c.before.before.led-to.ensures ∙ g.1)) refl refl
+returns-2 c = let a = c.before.before.before.before.before.before.before.before.before.args in stays (λ g. c.before.same-is.ensures.fails (not-true _ c.if2.true) (ap (λ (x : ℕ). eqb x a.v) c.before.before.led-to.ensures ∙ g.1)) refl refl
 
 -- both tests passed
 gone : (c : tie.Else2) → let a = c.before.before.before.before.before.before.before.before.before.args in Goes a.n a.c a.v a.like (lead_to a.n a.m a.cells.now (front a.n a.scratch.now) a.a) a.scratch.now a.i

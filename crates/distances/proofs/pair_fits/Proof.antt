@@ -7,7 +7,7 @@ use native.Mathlib.Nat.{not-le_of_lt}
 use native.Mathlib.Omega.{arith}
 use borrow.Author.Rules.{rules}
 use borrow.Author.Count.{below_more}
-use borrow.Author.Tests.{leb-true, leb-false, not_true, not-false}
+use borrow.Author.Tests.{leb-true, leb-false, not-true, not-false}
 use lib.ListN.{get_or}
 use Rattle.tables.specs.Table.{mark_of, weight_by}
 use Rattle.pairs.specs.Pairs.{pair_at}
@@ -42,7 +42,7 @@ returns-2 c =
     record {
       holds = λ e. absurd (false≢true e);
       fails = λ e f.
-          not-le_of_lt (leb-false _ _ (sym c.before.event-fits.ensures ∙ not_true _ c.if3.true)) (f.targets c.before.before.before.loop.event (omega arith));
+          not-le_of_lt (leb-false _ _ (sym c.before.event-fits.ensures ∙ not-true _ c.if3.true)) (f.targets c.before.before.before.loop.event (omega arith));
     }
 
 loop-again : tie.Need-loop-preserved invariant-loop decreases-loop

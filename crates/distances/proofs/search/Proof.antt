@@ -1,7 +1,7 @@
 use Prim.Native.Nat.{◌-◌}
 use mathlib.Core.Path.{◌∙◌}
 use native.Mathlib.Omega.{arith}
-use borrow.Author.Tests.{not_true}
+use borrow.Author.Tests.{not-true}
 use Rattle.rules.specs.Rules.{table_of}
 use Rattle.tables.proofs.Counted.{mask_light}
 use Rattle.distances.specs.Distances.{distance_cells}
@@ -34,7 +34,7 @@ same_length c =
 returns : tie.Need-returns invariant-loop decreases-loop
 unfolding distance_cells
 returns c =
-    rising-early c.before.before.before.before.before.before.before.before.before.before.before.before.before.before.requires c.before.before.before.before.before.before.before.before.before.begin.ensures c.before.before.before.before.before.before.loop.invariant (mask_light c.before.before.before.before.before.before.before.before.before.before.before.before.before.before.args.mask (table_of c.before.before.before.before.before.before.before.before.before.before.before.before.before.before.args.rows c.before.before.before.before.before.before.before.before.before.before.before.before.before.before.args.events 0 c.before.before.before.before.before.before.before.before.before.before.before.before.before.before.args.cells.now c.before.before.before.before.before.before.before.before.before.before.before.before.before.before.args.marks.now)) c.before.before.before.before.before.loop-test.true c.before.before.before.rise.ensures (not_true _ c.if1.true)
+    rising-early c.before.before.before.before.before.before.before.before.before.before.before.before.before.before.requires c.before.before.before.before.before.before.before.before.before.begin.ensures c.before.before.before.before.before.before.loop.invariant (mask_light c.before.before.before.before.before.before.before.before.before.before.before.before.before.before.args.mask (table_of c.before.before.before.before.before.before.before.before.before.before.before.before.before.before.args.rows c.before.before.before.before.before.before.before.before.before.before.before.before.before.before.args.events 0 c.before.before.before.before.before.before.before.before.before.before.before.before.before.before.args.cells.now c.before.before.before.before.before.before.before.before.before.before.before.before.before.before.args.marks.now)) c.before.before.before.before.before.loop-test.true c.before.before.before.rise.ensures (not-true _ c.if1.true)
 
 loop-again : tie.Need-loop-preserved invariant-loop decreases-loop
 loop-again c =

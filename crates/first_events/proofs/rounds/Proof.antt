@@ -1,7 +1,7 @@
 use Prim.Native.Nat.{suc, ◌+◌, ◌-◌, ◌≤◌}
 use mathlib.Core.Path.{◌≡◌}
 use native.Mathlib.Omega.{arith}
-use borrow.Author.Tests.{not_true, not-false}
+use borrow.Author.Tests.{not-true, not-false}
 use Rattle.tables.proofs.Counted.{mask_light}
 use Rattle.rules.specs.Rules.{table_of}
 use Rattle.scratch.specs.Scratch.{machine_by}
@@ -35,7 +35,7 @@ returns c =
     let s = c.before.before.before.before.before.before.before.before.before.before in
     let a = s.args in
     let l = c.before.before.before.before.before.before.loop in
-    rounds_last s.requires.0 (mask_light a.mask (table_of a.rows a.events 0 a.cells.now a.marks.now)) (l.most - 2) (omega (arith, l.invariant.0)) l.invariant.1 l.invariant.2 c.before.before.before.round.ensures (not_true _ c.if1.true)
+    rounds_last s.requires.0 (mask_light a.mask (table_of a.rows a.events 0 a.cells.now a.marks.now)) (l.most - 2) (omega (arith, l.invariant.0)) l.invariant.1 l.invariant.2 c.before.before.before.round.ensures (not-true _ c.if1.true)
 
 loop-again : tie.Need-loop-preserved invariant-loop decreases-loop
 loop-again c =

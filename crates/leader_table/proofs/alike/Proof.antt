@@ -1,6 +1,6 @@
 use mathlib.Core.Path.{sym, ◌∙◌}
 use mathlib.Core.Bool.{false≢true}
-use borrow.Author.Tests.{not_true, not-false}
+use borrow.Author.Tests.{not-true, not-false}
 use native.Mathlib.Omega.{arith}
 use borrow.Author.Rules.{rules}
 use Rattle.leader_table.proofs.alike.Statement.{statement}
@@ -24,7 +24,7 @@ settled-requires c κs =
     (record { few = p.0.few; room = p.0.room; events = p.0.events; inside = omega arith; past = omega (arith, p.0.past, p.0.inside) }, omega (arith, p.0.inside))
 
 returns-5 : tie.Need-returns-5
-returns-5 c = record { holds = λ e. absurd (false≢true e); fails = λ e z. c.before.settled.ensures.fails (not_true _ c.if5.true) z.settled }
+returns-5 c = record { holds = λ e. absurd (false≢true e); fails = λ e z. c.before.settled.ensures.fails (not-true _ c.if5.true) z.settled }
 
 returns-6 : tie.Need-returns-6
 returns-6 c =

@@ -1,5 +1,5 @@
 use mathlib.Core.Path.{refl}
-use borrow.Author.Tests.{not_true, not-false}
+use borrow.Author.Tests.{not-true, not-false}
 use Rattle.leader_table.proofs.Cells.{put_size}
 use native.Mathlib.Omega.{arith}
 use borrow.Author.Rules.{rules}
@@ -7,7 +7,7 @@ use Rattle.leader_table.proofs.put.Statement.{statement}
 use Rattle.leader_table.proofs.put.Tie as tie
 
 returns : tie.Need-returns
-returns c = (λ z. absurd (c.before.sized.ensures.fails (not_true _ c.if1.true) z), λ no. refl)
+returns c = (λ z. absurd (c.before.sized.ensures.fails (not-true _ c.if1.true) z), λ no. refl)
 
 returns-2 : tie.Need-returns-2
 returns-2 c = (λ z h. absurd (omega arith), λ no. refl)

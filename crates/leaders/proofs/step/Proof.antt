@@ -1,6 +1,6 @@
 use mathlib.Core.Path.{refl, sym, ◌∙◌}
 use mathlib.Core.Logic.{inl, inr}
-use borrow.Author.Tests.{not_true}
+use borrow.Author.Tests.{not-true}
 use Rattle.leader_table.proofs.Cells.{put_size}
 use Rattle.leaders.specs.Steps.{rests, passed, noted, Stepped}
 use native.Mathlib.Omega.{arith}
@@ -12,7 +12,7 @@ returns : tie.Need-returns
 returns c = rests (inl (λ e. c.if1.true (c.before.wide.ensures ∙ e))) refl refl
 
 returns-2 : tie.Need-returns-2
-returns-2 c = rests (inr (inr (c.before.before.before.if2.true, c.before.changed.ensures.fails (not_true _ c.if3.true)))) refl refl
+returns-2 c = rests (inr (inr (c.before.before.before.if2.true, c.before.changed.ensures.fails (not-true _ c.if3.true)))) refl refl
 
 same-length-2 : tie.Need-same-length-2
 same-length-2 c = put_size (c.before.before.before.put.ensures.0 c.before.before.before.before.before.before.before.before.before.before.before.requires.0 c.before.before.before.before.before.before.before.before.before.before.before.requires.2)

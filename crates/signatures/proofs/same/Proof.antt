@@ -1,7 +1,7 @@
 use Prim.Native.Nat.{ℕ, ◌-◌, ◌≤◌, ◌<◌}
 use mathlib.Core.Bool.{true≢false, false≢true}
 use borrow.Author.Count.{below_more}
-use borrow.Author.Tests.{not_true, not-false}
+use borrow.Author.Tests.{not-true, not-false}
 use Rattle.signatures.specs.Signatures.{Says}
 use native.Mathlib.Omega.{arith}
 use borrow.Author.Rules.{rules}
@@ -18,7 +18,7 @@ loop-holds : tie.Need-loop-init invariant-loop decreases-loop
 loop-holds c = (omega arith, λ b h. absurd (omega arith))
 
 returns : tie.Need-returns invariant-loop decreases-loop
-returns c = record { holds = λ e. absurd (false≢true e); fails = λ e z. c.before.same_at.ensures.fails (not_true _ c.if1.true) (z c.before.before.before.loop.a c.before.before.loop-test.true) }
+returns c = record { holds = λ e. absurd (false≢true e); fails = λ e z. c.before.same_at.ensures.fails (not-true _ c.if1.true) (z c.before.before.before.loop.a c.before.before.loop-test.true) }
 
 loop-again : tie.Need-loop-preserved invariant-loop decreases-loop
 loop-again c = (omega arith, below_more _ _ c.before.before.before.loop.invariant.1 (c.before.same_at.ensures.holds (not-false _ c.if1.false)))

@@ -1,12 +1,12 @@
 use mathlib.Core.Path.{refl}
 use borrow.Author.Rules.{rules}
-use borrow.Author.Tests.{not_true, not-false}
+use borrow.Author.Tests.{not-true, not-false}
 use Rattle.splitting.specs.Places.{Ready}
 use Rattle.splitting.proofs.split.Statement.{statement}
 use Rattle.splitting.proofs.split.Tie as tie
 
 returns : tie.Need-returns
-returns c = ((λ p. absurd (c.before.roomy.ensures.fails (not_true _ c.if1.true) p.room)), λ p. (refl, refl))
+returns c = ((λ p. absurd (c.before.roomy.ensures.fails (not-true _ c.if1.true) p.room)), λ p. (refl, refl))
 
 canonical-requires : tie.Need-canonical-requires
 canonical-requires c κs =
@@ -14,7 +14,7 @@ canonical-requires c κs =
     (p.few, p.room, p.inside)
 
 returns-2 : tie.Need-returns-2
-returns-2 c = ((λ p. absurd (c.before.canonical.ensures.fails (not_true _ c.if2.true) p.canon)), λ p. (refl, refl))
+returns-2 c = ((λ p. absurd (c.before.canonical.ensures.fails (not-true _ c.if2.true) p.canon)), λ p. (refl, refl))
 
 -- both tests passed
 ready : (c : tie.Else2)

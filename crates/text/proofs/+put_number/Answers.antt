@@ -1,0 +1,17 @@
+use native.Mathlib.Omega.{arith}
+use borrow.Author.Rules.{rules}
+use Rattle.text.proofs.Buffer.{puts_then}
+use Rattle.text.proofs.Decimal.{decimal-one, decimal-more}
+use Prim.Native.Nat.{ℕ, ◌<◌}
+use Rattle.text.proofs.+put_number.Goals as goal
+
+pub returns-then-n-lt10 : goal.returns-then-n-lt10
+returns-then-n-lt10 t c = let n = c.args.n in
+    rw (decimal-one n c.if-n-lt10.true) c.put_byte.ensures
+
+pub put_number-next-requires : goal.put_number-next-requires
+put_number-next-requires t c = (omega arith, tt)
+
+pub returns : goal.returns
+returns t c = let n = c.args.n in
+    rw (decimal-more n (omega arith)) (puts_then c.put_number-next.ensures c.put_byte-2.ensures)
