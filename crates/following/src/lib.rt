@@ -1,3 +1,4 @@
+#![tactic(auto)]
 // A follower's moves: what an event makes of its row and its count, by a table and a mask that says which events count.
 ghost use Rattle.std.specs.Prelude.{◌≡◌, ◌+◌, ◌*◌, ◌≤◌, min, length};
 ghost use Rattle.rules.specs.Rules.{winch, judged, shape_checks, table_of};

@@ -1,3 +1,4 @@
+#![tactic(auto)]
 // The two forms of an image: they differ in how targets stand in it.
 ghost use Rattle.std.specs.Prelude.{◌≡◌};
 ghost use Rattle.images.specs.Image.{width as width_of, length_of_image};

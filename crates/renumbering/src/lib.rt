@@ -1,3 +1,4 @@
+#![tactic(auto)]
 // The table that is left when rows fold as the scratch says: its rows are numbered in the order in which they are met, and it is written out.
 ghost use Rattle.std.specs.Prelude.{◌≡◌, [], ◌∷◌, ℕ, ◌+◌, ◌*◌, ◌/◌, ◌%◌, ◌≤◌, ◌<◌, eqb, length};
 ghost use Rattle.tables.specs.Table.{Valid, mark_byte_count, pack};

@@ -1,3 +1,4 @@
+#![tactic(auto)]
 // What the searches of the reducer share: the targets that they read, the cells of the lent scratch, and whether a table can be worked on.
 ghost use Rattle.std.specs.Prelude.{◌≡◌, ◌+◌, ◌*◌, get_or, set};
 ghost use Rattle.rules.specs.Rules.{table_of, judged, winch, table_checks};

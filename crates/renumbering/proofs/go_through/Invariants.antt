@@ -1,0 +1,12 @@
+use Prim.Native.Nat.{◌-◌}
+use Rattle.rules.specs.Rules.{table_of}
+use Rattle.renumbering.proofs.Lines.{line_again}
+use Rattle.renumbering.proofs.Lining.{targets, in_line, Gone, gone_fits, gone-first, row_below, gone-next, gone-all}
+use native.Mathlib.Omega.{arith}
+use Rattle.renumbering.proofs.go_through.Given as goal
+
+abbrev pub invariant-loop-i : goal.invariant-loop-i
+invariant-loop-i l = Gone (table_of l.n l.m l.start l.cells l.marks) l.initial.scratch l.i l.count l.scratch
+
+abbrev pub decreases-loop-i : goal.decreases-loop-i
+decreases-loop-i l = l.n - l.i

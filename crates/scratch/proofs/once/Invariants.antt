@@ -1,0 +1,14 @@
+use Prim.Native.Nat.{ℕ, ◌+◌, ◌-◌, ◌≤◌}
+use mathlib.Core.Path.{◌≡◌, sym, ap, ◌∙◌}
+use mathlib.Core.Bool.{false≢true}
+use borrow.Author.Tests.{eqb-true, eqb-false}
+use Rattle.scratch.specs.Tests.{tally}
+use Rattle.scratch.proofs.Tallies.{tally-none, tally_hit, tally_miss}
+use native.Mathlib.Omega.{arith}
+use Rattle.scratch.proofs.once.Given as goal
+
+abbrev pub invariant-loop-i : goal.invariant-loop-i
+invariant-loop-i l = (l.i ≤ l.count) × (l.found ≤ l.i) × (l.found ≡ tally l.cells l.from l.x l.i)
+
+abbrev pub decreases-loop-i : goal.decreases-loop-i
+decreases-loop-i l = l.count - l.i
