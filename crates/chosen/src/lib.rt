@@ -2,7 +2,7 @@
 // The last run that differs, for two rows: the definitions are in specs/, the theorems in proofs/.
 
 // How the chosen run of two rows begins: with an event, or at its end; unsettled where none is known.
-#[derive(Drop)]
+#[derive(Clone, Copy)]
 pub enum First {
     Unsettled,
     End,

@@ -15,7 +15,7 @@ ghost use Rattle.first_events.specs.Rounds.{Given, Distances, Reached, Rounded, 
 use chosen::First;
 
 // The passes over all pairs. A round looks at distances up to a number only: no higher one can be settled in it.
-#[derive(Drop)]
+#[derive(Clone, Copy)]
 pub enum Pass {
     Ends,
     Takes(u16),

@@ -7,14 +7,14 @@ ghost use Rattle.follower.specs.Follow.{begun, moved, settled, shown};
 use following::Follower;
 
 // A new follower, or the number and place of the first rule broken.
-#[derive(Drop)]
+#[derive(Clone, Copy)]
 pub enum Begun {
     At(Follower),
     Refused(usize, usize),
 }
 
 // Whether the mark is ready and whether it is settled, or the number and place of the first rule broken.
-#[derive(Drop)]
+#[derive(Clone, Copy)]
 pub enum Shown {
     Mark(bool, bool),
     Refused(usize, usize),
@@ -57,7 +57,7 @@ pub fn step(
 }
 
 // A follower and what the step said.
-#[derive(Drop)]
+#[derive(Clone, Copy)]
 pub struct Outcome {
     pub to: Follower,
     pub verdict: rules::Verdict,

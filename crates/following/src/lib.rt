@@ -5,14 +5,14 @@ ghost use Rattle.rules.specs.Rules.{winch, judged, shape_checks, table_of};
 ghost use Rattle.following.specs.Moves.{cell_checks, stays, advanced_by, advanced};
 
 // Where a follower stands, and how many counted events it has taken.
-#[derive(Drop)]
+#[derive(Clone, Copy)]
 pub struct Follower {
     pub row: u16,
     pub count: u16,
 }
 
 // The two numbers of a follower after an event; where it is refused they are as they were.
-#[derive(Drop)]
+#[derive(Clone, Copy)]
 pub struct Next {
     pub row: u16,
     pub count: u16,

@@ -1,3 +1,4 @@
+#![tactic(auto)]
 // The numbers and the targets that stand in an image, each at its place.
 ghost use Rattle.std.specs.Prelude.{◌≡◌, ◌+◌, get_or};
 ghost use Rattle.images.specs.Image.{number_at, target_at};
@@ -6,7 +7,7 @@ ghost use Rattle.image_numbers.specs.Numbers.{number_section};
 use images::Form;
 
 // What a section gives: its value and the place after it, or the number and place of the rule that it breaks.
-#[derive(Drop)]
+#[derive(Clone, Copy)]
 pub enum Section {
     Got(usize, usize),
     Refused(usize, usize),

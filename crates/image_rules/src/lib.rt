@@ -1,3 +1,4 @@
+#![tactic(auto)]
 // What is judged of a table before its image is written, in either form; and what its writer answers.
 ghost use Rattle.std.specs.Prelude.{◌≡◌, ◌≤◌, ◌<◌, length};
 ghost use Rattle.rules.specs.Rules.{judged, table_of};
@@ -8,7 +9,7 @@ use rules::Verdict;
 use steps::Step;
 
 // The length of the image that was written, or the number and place of the first rule broken.
-#[derive(Drop)]
+#[derive(Clone, Copy)]
 pub enum Written {
     Length(usize),
     Refused(usize, usize),

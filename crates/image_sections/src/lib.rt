@@ -9,7 +9,7 @@ use image_numbers::Section;
 use images::Form;
 
 // The rows, events and start of the table that was read, or the number and place of the first rule broken.
-#[derive(Drop)]
+#[derive(Clone, Copy)]
 pub enum Read {
     Table(usize, usize, usize),
     Refused(usize, usize),

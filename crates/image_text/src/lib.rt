@@ -26,7 +26,7 @@ pub fn mask_of(first: u8, second: u8, third: u8, fourth: u8) -> u32
 }
 
 // An image that was read: the answer and, of a table, its cells and its mark bytes, in front, and how many there are of each.
-#[derive(Drop)]
+#[derive(Clone, Copy)]
 pub struct Loaded {
     pub read: Read,
     pub cells: [u16; 4096],

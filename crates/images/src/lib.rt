@@ -3,7 +3,7 @@
 ghost use Rattle.std.specs.Prelude.{◌≡◌};
 ghost use Rattle.images.specs.Image.{width as width_of, length_of_image};
 // Document 01's image, with a number for each target; and the radio image of #102, with a step, a signed byte.
-#[derive(Drop)]
+#[derive(Clone, Copy)]
 pub enum Form {
     Plain,
     Radio,

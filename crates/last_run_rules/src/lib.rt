@@ -1,3 +1,4 @@
+#![tactic(auto)]
 // What is judged of a table, a mask, a row and the lent scratch before the row's last run is told, and what is answered.
 ghost use Rattle.std.specs.Prelude.{◌≡◌, [], ◌∷◌, ◌++◌};
 ghost use Rattle.rules.specs.Rules.{table_of, judged, winch, room_rule, masked_checks};
@@ -7,7 +8,7 @@ ghost use Rattle.last_run_rules.specs.Checks.{verdict};
 use rules::Verdict;
 
 // A distance and the length of a run in all its events, or the number and place of the first rule broken.
-#[derive(Drop)]
+#[derive(Clone, Copy)]
 pub enum Told {
     Run(usize, usize),
     Refused(usize, usize),

@@ -6,7 +6,7 @@ ghost use Rattle.measures.specs.Measures.{begin_in, measure_in};
 use chosen::First;
 
 // The distance of two rows, 65,535 if it is endless, and, where it is finite and above 0, the first event of their chosen run or its end.
-#[derive(Drop)]
+#[derive(Clone, Copy)]
 pub struct Measure {
     pub distance: u16,
     pub first: First,

@@ -5,7 +5,7 @@ ghost use Rattle.sheet_rules.specs.Checks.{verdict};
 ghost use Rattle.offsets.specs.Sheet.{Promise};
 
 // How many entries were written, or the number and place of the first rule broken.
-#[derive(Drop)]
+#[derive(Clone, Copy)]
 pub enum Listed {
     Entries(usize),
     Refused(usize, usize),

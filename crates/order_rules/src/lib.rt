@@ -1,3 +1,4 @@
+#![tactic(auto)]
 // What is judged of two tables and the lent scratch before the tables are put in order, and what is answered.
 ghost use Rattle.std.specs.Prelude.{◌≡◌, ◌++◌};
 ghost use Rattle.rules.specs.Rules.{table_of, judged, winch, table_checks};
@@ -8,7 +9,7 @@ use ordering::Order;
 use rules::Verdict;
 
 // Which of two tables comes first, or the number and place of the first rule broken.
-#[derive(Drop)]
+#[derive(Clone, Copy)]
 pub enum Ordered {
     First,
     Equal,

@@ -2,7 +2,7 @@
 // The order of tables: the definitions are in specs/, the theorems in proofs/.
 
 // Which of two tables comes first; equal if no run tells them apart.
-#[derive(Drop)]
+#[derive(Clone, Copy)]
 pub enum Order {
     First,
     Equal,

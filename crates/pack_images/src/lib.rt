@@ -9,7 +9,7 @@ use image_sections::Read;
 use images::Form;
 
 // How many cells and mark bytes the tables of a pack need, or the number and place of the first rule broken.
-#[derive(Drop)]
+#[derive(Clone, Copy)]
 pub enum Needs {
     Room(usize, usize),
     Refused(usize, usize),

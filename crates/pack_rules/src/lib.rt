@@ -1,3 +1,4 @@
+#![tactic(auto)]
 // What is judged of the tables of a pack before anything is written: tables that lie one after another, and the room for the bytes of their pack.
 ghost use Rattle.std.specs.Prelude.{◌≡◌, [], ◌∷◌, ◌++◌, ◌+◌, ◌≤◌, length, get_or};
 ghost use Rattle.rules.specs.Rules.{judged, room_rule};
@@ -10,7 +11,7 @@ use images::Form;
 use rules::Verdict;
 
 // A table of a list: its three entries, and how many cells and mark bytes it has.
-#[derive(Drop)]
+#[derive(Clone, Copy)]
 pub struct Entry {
     pub rows: usize,
     pub events: usize,
@@ -20,7 +21,7 @@ pub struct Entry {
 }
 
 // What the tables of a list need together: cells, mark bytes, and bytes for their pack.
-#[derive(Drop)]
+#[derive(Clone, Copy)]
 struct Needed {
     cells: usize,
     marks: usize,

@@ -1,3 +1,4 @@
+#![tactic(auto)]
 // The map of scratch for all pairs of rows: a triangle of cells, and three more for each row.
 ghost use Rattle.std.specs.Prelude.{◌≡◌};
 ghost use Rattle.rules.specs.Rules.{table_of};

@@ -209,7 +209,7 @@ fn next(scratch: &[u16], n: usize, k: usize, i: usize, level: usize, rest: bool)
 
 // Where the sweep stands: the place in the order, how many rows are kept, the level, and whether nothing has moved at it. How many of the kept rows are in the table of
 // leaders, and the level at which values changed last.
-#[derive(Drop)]
+#[derive(Clone, Copy)]
 struct Stand {
     place: usize,
     kept: usize,

@@ -3,14 +3,14 @@ ghost use Rattle.std.specs.Prelude.{◌≡◌, ◌<◌, min, length};
 ghost use Rattle.records.specs.Records.{depth_by, fate_by, record_at_row, written};
 
 // A row's depth: the length of the longest run to it, or endless.
-#[derive(Drop)]
+#[derive(Clone, Copy)]
 pub enum Depth {
     Number(u16),
     Endless,
 }
 
 // What became of a row: kept as a new row, folded into a given row, or unreached.
-#[derive(Drop)]
+#[derive(Clone, Copy)]
 pub enum Fate {
     Kept(u16),
     Folded(u16),
@@ -18,7 +18,7 @@ pub enum Fate {
 }
 
 // A row's record.
-#[derive(Drop)]
+#[derive(Clone, Copy)]
 pub struct Record {
     pub depth: Depth,
     pub fate: Fate,

@@ -53,7 +53,7 @@ pub fn reduce(
 }
 
 // The answer, and the records by value.
-#[derive(Drop)]
+#[derive(Clone, Copy)]
 pub struct Outcome {
     pub answer: Answer,
     pub records: [Record; 1024],

@@ -14,7 +14,7 @@ use reduction_rules::Answer;
 use ways::Way;
 
 // The answer, of how many given rows there are records to write, and how many scratch cells were used: none on a refusal.
-#[derive(Drop)]
+#[derive(Clone, Copy)]
 pub struct Done {
     pub answer: Answer,
     pub rows: u16,

@@ -7,7 +7,7 @@ ghost use Rattle.reduction_rules.specs.Checks.{room_checks, verdict};
 use ways::Way;
 
 // The new row count, or the number and place of the first rule broken.
-#[derive(Drop)]
+#[derive(Clone, Copy)]
 pub enum Answer {
     Reduced(usize),
     Refused(usize, usize),

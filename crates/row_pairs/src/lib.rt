@@ -1,3 +1,4 @@
+#![tactic(auto)]
 // Pairs of a row of one table and a row of another: how many there are, where each has its cell, which of its rows shows the lower mark.
 ghost use Rattle.std.specs.Prelude.{◌≡◌, ◌+◌, ◌*◌};
 ghost use Rattle.tables.specs.Table.{mark_of};

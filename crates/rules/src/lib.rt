@@ -4,21 +4,21 @@ ghost use Rattle.std.specs.Prelude.{◌≡◌, false, [], ◌∷◌, ◌≤◌};
 ghost use Rattle.rules.specs.Rules.{winch as winch_limits, judged, mask_rule, shape_checks, content_checks, table_checks, masked_checks, table_of, first_outside_at, outside};
 
 // What checks say: nothing is broken, or the number of the first rule that is, and its place.
-#[derive(Drop)]
+#[derive(Clone, Copy)]
 pub enum Verdict {
     Fine,
     Refused(usize, usize),
 }
 
 // An offset: a number of events, or none.
-#[derive(Drop)]
+#[derive(Clone, Copy)]
 pub enum Offset {
     Number(u16),
     None,
 }
 
 // How many rows and events a table may have.
-#[derive(Drop)]
+#[derive(Clone, Copy)]
 pub struct Limits {
     pub rows: u16,
     pub events: u16,

@@ -1,3 +1,4 @@
+#![tactic(auto)]
 // What is judged of a table, a mask, the lent list and the scratch before a sheet is made.
 ghost use Rattle.std.specs.Prelude.{◌≡◌};
 ghost use Rattle.rules.specs.Rules.{table_of, judged};

@@ -4,7 +4,7 @@ ghost use Rattle.std.specs.Prelude.{◌≡◌};
 ghost use Rattle.steps.specs.Steps.{step_of, byte_of_step, step_of_byte, landing as landing_of};
 
 // A step that a signed byte holds, or one that is too far for it.
-#[derive(Drop)]
+#[derive(Clone, Copy)]
 pub enum Step {
     Small(i8),
     Far,

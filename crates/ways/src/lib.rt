@@ -1,9 +1,10 @@
+#![tactic(auto)]
 // The two ways through the reducer, by the scratch that is lent, and which cells each needs.
 ghost use Rattle.std.specs.Prelude.{◌≡◌};
 ghost use Rattle.ways.specs.Ways.{need_of};
 
 // The first way has scratch for all pairs of rows; the second 12 cells a row.
-#[derive(Drop)]
+#[derive(Clone, Copy)]
 pub enum Way {
     First,
     Second,
