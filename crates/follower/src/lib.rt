@@ -1,3 +1,4 @@
+#![tactic(auto)]
 // A follower of a table: it is changed by each event it takes, counts those that a mask says count, and answers its row's mark.
 ghost use Rattle.std.specs.Prelude.{◌≡◌};
 ghost use Rattle.rules.specs.Rules.{table_of, offset_of};

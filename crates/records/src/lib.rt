@@ -1,3 +1,4 @@
+#![tactic(auto)]
 // Records of what became of each given row, written from the number lists in scratch.
 ghost use Rattle.std.specs.Prelude.{◌≡◌, ◌<◌, min, length};
 ghost use Rattle.records.specs.Records.{depth_by, fate_by, record_at_row, written};
