@@ -1,3 +1,4 @@
+#![tactic(auto)]
 // The distance of each pair of rows: the least length from which on no run tells the two apart. They are found level by level, in lent scratch.
 ghost use Rattle.std.specs.Prelude.{◌≡◌, false, ℕ, ◌+◌, ◌-◌, ◌*◌, ◌≤◌, ◌<◌, leb, length, get_or};
 ghost use Rattle.tables.specs.Lists.{over};

@@ -1,3 +1,4 @@
+#![tactic(auto)]
 // The rows of a table into which its rows fold, found in the lent scratch from the distances and the depths.
 ghost use Rattle.std.specs.Prelude.{◌≡◌, length};
 ghost use Rattle.rules.specs.Rules.{table_of, offset_of};

@@ -1,3 +1,4 @@
+#![tactic(auto)]
 // The signature of a row: the classes of the level before to which its counted events lead it. Rows of one signature, a key that they share, and whether a class changed
 // to which an event leads.
 ghost use Rattle.std.specs.Prelude.{◌≡◌, ◌<◌};

@@ -1,0 +1,21 @@
+use Prim.Native.Nat.{ℕ, ◌+◌, ◌-◌, ◌*◌, ◌≤◌, ◌<◌}
+use mathlib.Core.Path.{◌≡◌, sym, ap, ◌∙◌}
+use mathlib.Core.List.{List}
+use mathlib.Core.Bool.{true≢false, false≢true}
+use mathlib.Core.Logic.{⊎_elim}
+use native.Mathlib.Nat.{not-le_of_lt}
+use native.Mathlib.Omega.{arith}
+use borrow.Author.Rules.{rules}
+use borrow.Author.Count.{below_more}
+use borrow.Author.Tests.{leb-true, leb-false, not-true, not-false}
+use lib.ListN.{get_or}
+use Rattle.tables.specs.Table.{mark_of, weight_by}
+use Rattle.pairs.specs.Pairs.{pair_at}
+use mathlib.Core.Bool.{not}
+use Rattle.distances.proofs.pair_fits.Given as goal
+
+abbrev pub invariant-loop-event : goal.invariant-loop-event
+invariant-loop-event l = (l.event ≤ l.events) × (l.level ≡ 0 → mark_of l.marks l.q ≡ mark_of l.marks l.p) × ((a : ℕ) → a < l.event → pair_at l.scratch (get_or l.cells (l.q * l.events + a) 0) (get_or l.cells (l.p * l.events + a) 0) ≤ l.level - weight_by l.mask a)
+
+abbrev pub decreases-loop-event : goal.decreases-loop-event
+decreases-loop-event l = l.events - l.event
