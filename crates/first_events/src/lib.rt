@@ -1,3 +1,4 @@
+#![tactic(auto)]
 // The distance of each pair of rows with the first event of its chosen run, or the run's end: from the distances, in rounds over the length of the run in all its events.
 ghost use Rattle.std.specs.Prelude.{◌≡◌, ◌+◌, ◌≤◌, ◌<◌, length};
 ghost use Rattle.rules.specs.Rules.{table_of};

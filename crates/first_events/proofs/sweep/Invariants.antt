@@ -1,0 +1,16 @@
+use Prim.Native.Nat.{◌-◌, ◌≤◌}
+use mathlib.Core.Path.{◌≡◌, refl, ap}
+use native.Mathlib.Omega.{arith}
+use borrow.Author.Rules.{rules}
+use Rattle.pairs.specs.Pairs.{triangle}
+use Rattle.scratch.specs.Scratch.{machine_by}
+use Rattle.distances.specs.Search.{events_by}
+use Rattle.first_events.specs.Passes.{Swept}
+use Rattle.first_events.proofs.Sweeps.{triangle-more, swept_none, swept_to, swept_hit, swept_miss}
+use Rattle.first_events.proofs.sweep.Given as goal
+
+abbrev pub invariant-loop-q : goal.invariant-loop-q
+invariant-loop-q l = (l.q ≤ l.rows) × Swept l.pass (events_by l.mask l.events) (machine_by l.rows l.events l.cells l.marks) 0 (triangle l.q) l.initial.scratch l.scratch l.changed
+
+abbrev pub decreases-loop-q : goal.decreases-loop-q
+decreases-loop-q l = l.rows - l.q

@@ -1,0 +1,31 @@
+use Prim.Native.Nat.{ℕ, suc, ◌-◌, ◌≤◌, ◌<◌}
+use mathlib.Core.Path.{◌≡◌, sym, ◌∙◌}
+use borrow.Author.Count.{below_more}
+use lib.ListN.{get_or}
+use Rattle.ordering.proofs.First.{found_none, found_at}
+use Rattle.scratch.specs.Scratch.{machine_by}
+use Rattle.order.specs.Cells.{tells}
+use Rattle.order.specs.Search.{events_in, graph_by}
+use Rattle.order.proofs.Events.{tells-step}
+use native.Mathlib.Omega.{arith}
+use Rattle.order.proofs.first_told.Goals as goal
+
+pub loop-event-init : goal.loop-event-init
+loop-event-init c = (omega arith, λ a h. absurd (omega arith))
+
+pub returns-then-told-ne0 : goal.returns-then-told-ne0
+returns-then-told-ne0 c = let a = c.args in
+    let l = c.loop-event in
+    let e = tells-step (events_in a.events) (machine_by a.rows a.events a.cells.now a.marks.now) (machine_by a.rows2 a.events a.cells2.now a.marks2.now) a.k l.event c.first_of-q.ensures c.second_of-p.ensures c.target-i.ensures c.target-j.ensures a.scratch.now a.level c.place.ensures c.cell.ensures c.told_at-told.ensures.0 in
+    (e ∙ sym (found_at a.events _ l.event c.loop-event-test.true l.invariant.1 (λ z. c.if-told-ne0.true (e ∙ z))), c.told_at-told.ensures.1)
+
+pub loop-event-preserved : goal.loop-event-preserved
+loop-event-preserved c = let a = c.args in
+    let l = c.loop-event in
+    let e = tells-step (events_in a.events) (machine_by a.rows a.events a.cells.now a.marks.now) (machine_by a.rows2 a.events a.cells2.now a.marks2.now) a.k l.event c.first_of-q.ensures c.second_of-p.ensures c.target-i.ensures c.target-j.ensures a.scratch.now a.level c.place.ensures c.cell.ensures c.told_at-told.ensures.0 in
+    (omega arith, below_more _ _ l.invariant.1 (sym e ∙ omega (arith, c.if-told-ne0.false)))
+
+pub returns : goal.returns
+returns c = let a = c.args in
+    let l = c.loop-event in
+    (sym (found_none a.events _ (λ b h. l.invariant.1 b (omega (arith, c.loop-event-test.false)))), omega arith)

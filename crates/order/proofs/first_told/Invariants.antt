@@ -1,0 +1,17 @@
+use Prim.Native.Nat.{ℕ, suc, ◌-◌, ◌≤◌, ◌<◌}
+use mathlib.Core.Path.{◌≡◌, sym, ◌∙◌}
+use borrow.Author.Count.{below_more}
+use lib.ListN.{get_or}
+use Rattle.ordering.proofs.First.{found_none, found_at}
+use Rattle.scratch.specs.Scratch.{machine_by}
+use Rattle.order.specs.Cells.{tells}
+use Rattle.order.specs.Search.{events_in, graph_by}
+use Rattle.order.proofs.Events.{tells-step}
+use native.Mathlib.Omega.{arith}
+use Rattle.order.proofs.first_told.Given as goal
+
+abbrev pub invariant-loop-event : goal.invariant-loop-event
+invariant-loop-event l = (l.event ≤ l.events) × ((a : ℕ) → a < l.event → tells (suc l.level) (get_or l.scratch ((graph_by l.rows l.events l.cells l.marks l.rows2 l.cells2 l.marks2).step l.k a) 0) ≡ 0)
+
+abbrev pub decreases-loop-event : goal.decreases-loop-event
+decreases-loop-event l = l.events - l.event

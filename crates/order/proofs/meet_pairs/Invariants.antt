@@ -1,0 +1,13 @@
+use Prim.Native.Nat.{◌-◌, ◌≤◌, ◌<◌}
+use Rattle.ordering.proofs.Pairs.{pairs_inside}
+use Rattle.order.specs.Search.{graph_by, Climbing}
+use Rattle.order.proofs.Levels.{given_after}
+use Rattle.order.proofs.Climbs.{climb_begin, begun-size, climb-next, climb-none, climb-told, climb_end, sought_from}
+use native.Mathlib.Omega.{arith}
+use Rattle.order.proofs.meet_pairs.Given as goal
+
+abbrev pub invariant-loop-level : goal.invariant-loop-level
+invariant-loop-level l = (0 < l.level) × (l.level ≤ 2048) × Climbing (graph_by l.rows l.events l.cells l.marks l.rows2 l.cells2 l.marks2) l.start (l.level - 1) l.initial.scratch l.scratch
+
+abbrev pub decreases-loop-level : goal.decreases-loop-level
+decreases-loop-level l = 4096 - l.level

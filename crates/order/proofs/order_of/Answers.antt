@@ -1,0 +1,6 @@
+use Rattle.order.proofs.Meeting.{order-second}
+use borrow.Author.Rules.{rules}
+use Rattle.order.proofs.order_of.Goals as goal
+
+pub returns : goal.returns
+returns c = order-second c.args.told c.if-told-eq0.false c.if-told-eq1.false

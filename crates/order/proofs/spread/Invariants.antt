@@ -1,0 +1,14 @@
+use Prim.Native.Nat.{◌-◌, ◌≤◌}
+use Rattle.ordering.proofs.Pairs.{pairs_inside}
+use Rattle.order.specs.Search.{graph_by, Spreading}
+use Rattle.order.proofs.Rows.{pair_bound}
+use Rattle.order.proofs.Spreads.{spread_none, spread-other, level_before, spread_end}
+use Rattle.order.proofs.Levels.{given_after}
+use native.Mathlib.Omega.{arith}
+use Rattle.order.proofs.spread.Given as goal
+
+abbrev pub invariant-loop-next : goal.invariant-loop-next
+invariant-loop-next l = (l.next ≤ l.count) × Spreading (graph_by l.rows l.events l.cells l.marks l.rows2 l.cells2 l.marks2) l.level l.next 0 l.initial.scratch l.scratch l.most
+
+abbrev pub decreases-loop-next : goal.decreases-loop-next
+decreases-loop-next l = l.count - l.next

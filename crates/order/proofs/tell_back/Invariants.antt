@@ -1,0 +1,14 @@
+use Prim.Native.Nat.{ℕ, ◌-◌, ◌≤◌, ◌<◌}
+use mathlib.Core.Path.{refl}
+use Rattle.ordering.proofs.Pairs.{pairs_inside}
+use Rattle.order.specs.Search.{graph_by, Framed, Told}
+use Rattle.order.proofs.Levels.{given_after, framed_then}
+use Rattle.order.proofs.Settles.{told_back, settle_framed, told-first}
+use native.Mathlib.Omega.{arith}
+use Rattle.order.proofs.tell_back.Given as goal
+
+abbrev pub invariant-loop-level : goal.invariant-loop-level
+invariant-loop-level l = (0 < l.level) × (l.level ≤ l.last) × Framed (graph_by l.rows l.events l.cells l.marks l.rows2 l.cells2 l.marks2) l.initial.scratch l.scratch × ((start : ℕ) → start < (graph_by l.rows l.events l.cells l.marks l.rows2 l.cells2 l.marks2).places → Told (graph_by l.rows l.events l.cells l.marks l.rows2 l.cells2 l.marks2) start (l.last - 1) (l.last - 1) l.initial.scratch → Told (graph_by l.rows l.events l.cells l.marks l.rows2 l.cells2 l.marks2) start (l.last - 1) (l.level - 1) l.scratch)
+
+abbrev pub decreases-loop-level : goal.decreases-loop-level
+decreases-loop-level l = l.level
