@@ -1,3 +1,4 @@
+#![tactic(auto)]
 // What the sections of an image say, in both forms: each in order is opened into its value and the place after it, or gives its refusal; nothing is lent.
 ghost use Rattle.std.specs.Prelude.{◌≡◌, ◌+◌, ◌*◌, ◌≤◌, ◌<◌, leb, length};
 ghost use Rattle.tables.specs.Lists.{position};

@@ -1,3 +1,4 @@
+#![tactic(auto)]
 // The table of leaders: a place is put into it by a key of its row's signature, or joined to the place of that signature that is in it.
 ghost use Rattle.std.specs.Prelude.{◌≡◌, ◌*◌, ◌<◌};
 ghost use Rattle.scratch.specs.Tests.{Tested};

@@ -1,3 +1,4 @@
+#![tactic(auto)]
 // The rows into which rows fold, without distances: level by level the rows that need a level join those before them, and fold into the first row of their class.
 ghost use Rattle.std.specs.Prelude.{◌≡◌, cond, true, false, ◌⊎◌, ℕ, ◌+◌, ◌*◌, ◌≤◌, ◌<◌, length, get_or};
 ghost use Rattle.tables.specs.Table.{weight_by, machine, events_of};

@@ -1,1 +1,3 @@
+#![tactic(auto)]
+
 // Tables and their reduction: the definitions are in specs/, the theorems in proofs/.

@@ -1,0 +1,15 @@
+use Prim.Native.Nat.{ℕ, ◌-◌, ◌≤◌, ◌<◌}
+use mathlib.Core.Bool.{false≢true}
+use borrow.Author.Count.{below_more}
+use borrow.Author.Tests.{not-false}
+use Rattle.quick_folding.specs.Parts.{StaysAt}
+use native.Mathlib.Omega.{arith}
+use mathlib.Core.Bool.{not}
+use mathlib.Core.Path.{ap}
+use Rattle.quick_folding.proofs.all_stay.Given as goal
+
+abbrev pub invariant-loop-a : goal.invariant-loop-a
+invariant-loop-a l = (l.a ≤ l.m) × ((b : ℕ) → b < l.a → StaysAt l.mask l.n l.m l.cells l.scratch b)
+
+abbrev pub decreases-loop-a : goal.decreases-loop-a
+decreases-loop-a l = l.m - l.a

@@ -1,0 +1,12 @@
+use Prim.Native.Nat.{ℕ, ◌-◌, ◌≤◌}
+use mathlib.Core.Path.{◌≡◌, subst, ◌∙◌}
+use Rattle.quick_folding.specs.Parts.{fold_at, Valued}
+use Rattle.quick_folding.proofs.Moves.{wrote_none, wrote_next, labels_still, fold_still}
+use native.Mathlib.Omega.{arith}
+use Rattle.quick_folding.proofs.name_folds.Given as goal
+
+abbrev pub invariant-loop-q : goal.invariant-loop-q
+invariant-loop-q l = (l.q ≤ l.n) × Valued l.n l.q (fold_at l.n l.initial.scratch) l.initial.scratch l.scratch
+
+abbrev pub decreases-loop-q : goal.decreases-loop-q
+decreases-loop-q l = l.n - l.q

@@ -1,0 +1,14 @@
+use Prim.Native.Nat.{ℕ, ◌-◌, ◌≤◌}
+use mathlib.Core.Path.{◌≡◌, subst, ◌∙◌}
+use Rattle.quick_folding.specs.Parts.{Valued}
+use Rattle.quick_folding.specs.Parting.{apart_at}
+use Rattle.quick_folding.proofs.Moves.{wrote_none, wrote_next, labels_still}
+use Rattle.quick_folding.proofs.Losses.{apart-still}
+use native.Mathlib.Omega.{arith}
+use Rattle.quick_folding.proofs.parting.name_apart.Given as goal
+
+abbrev pub invariant-loop-q : goal.invariant-loop-q
+invariant-loop-q l = (l.q ≤ l.n) × Valued l.n l.q (apart_at l.n l.initial.scratch) l.initial.scratch l.scratch
+
+abbrev pub decreases-loop-q : goal.decreases-loop-q
+decreases-loop-q l = l.n - l.q

@@ -1,0 +1,14 @@
+use Prim.Native.Nat.{ℕ, ◌-◌, ◌*◌, ◌≤◌}
+use mathlib.Core.Path.{◌≡◌, subst}
+use Rattle.quick_folding.specs.Parts.{Wrote}
+use Rattle.quick_folding.specs.Parting.{loss_at}
+use Rattle.quick_folding.proofs.Moves.{wrote_none, wrote_next}
+use Rattle.quick_folding.proofs.Losses.{noting_still, loss-still}
+use native.Mathlib.Omega.{arith}
+use Rattle.quick_folding.proofs.parting.note_losses.Given as goal
+
+abbrev pub invariant-loop-c : goal.invariant-loop-c
+invariant-loop-c l = (l.c ≤ l.u) × Wrote (8 * l.n) l.c (loss_at l.n l.level l.initial.scratch) l.initial.scratch l.scratch
+
+abbrev pub decreases-loop-c : goal.decreases-loop-c
+decreases-loop-c l = l.u - l.c

@@ -1,0 +1,23 @@
+use Prim.Native.Nat.{◌-◌, ◌≤◌}
+use mathlib.Core.Path.{◌≡◌, refl, ◌∙◌}
+use lib.ListN.{length}
+use Rattle.tables.specs.Table.{weight_by, machine, events_of}
+use Rattle.tables.specs.Reduction.{order}
+use Rattle.rules.specs.Rules.{table_of}
+use Rattle.quick_folding.specs.State.{Apart, Tabled}
+use Rattle.quick_folding.specs.Parting.{Parted}
+use Rattle.quick_folding.proofs.Entering.{shape, fits_still}
+use Rattle.quick_folding.proofs.Ending.{apart_none, apart_then, staying, stays_of}
+use Rattle.quick_folding.proofs.Losses.{taken, clear_apart, parted-first, parted_at, measured}
+use Rattle.quick_folding.proofs.Tabling.{tabled_none}
+use native.Mathlib.Omega.{arith}
+use Rattle.quick_folding.proofs.parting.part_all.Given as goal
+
+abbrev pub invariant-loop-x : goal.invariant-loop-x
+invariant-loop-x l = Apart l.n l.initial.scratch l.scratch
+    × Parted (events_of (weight_by l.mask) (table_of l.n l.m l.start l.cells l.marks)) (machine (table_of l.n l.m l.start l.cells l.marks)) l.x.level l.x.kept l.scratch
+    × (l.x.place ≡ length (order (events_of (weight_by l.mask) (table_of l.n l.m l.start l.cells l.marks)) (machine (table_of l.n l.m l.start l.cells l.marks)))) × (l.x.level ≤ l.n)
+    × Tabled l.mask (table_of l.n l.m l.start l.cells l.marks) l.x.kept l.x.known l.x.last l.scratch
+
+abbrev pub decreases-loop-x : goal.decreases-loop-x
+decreases-loop-x l = l.n - l.x.level

@@ -1,0 +1,13 @@
+use Prim.Native.Nat.{◌-◌, ◌≤◌}
+use mathlib.Core.Path.{ap, ◌∙◌}
+use mathlib.Core.Bool.{false≢true, true≢false}
+use borrow.Author.Count.{below_more}
+use Rattle.quick_folding.specs.Parts.{Still, value_at}
+use native.Mathlib.Omega.{arith}
+use Rattle.quick_folding.proofs.still.Given as goal
+
+abbrev pub invariant-loop-i : goal.invariant-loop-i
+invariant-loop-i l = (l.i ≤ l.u) × Still l.n l.i l.scratch
+
+abbrev pub decreases-loop-i : goal.decreases-loop-i
+decreases-loop-i l = l.u - l.i

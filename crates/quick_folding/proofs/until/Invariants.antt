@@ -1,0 +1,15 @@
+use Prim.Native.Nat.{ℕ, ◌-◌, ◌≤◌, ◌<◌}
+use mathlib.Core.Path.{◌≡◌, sym, ap, subst}
+use mathlib.Core.Logic.{⊎_elim}
+use lib.ListN.{get_or}
+use Rattle.scratch.proofs.Numbers.{eq_or_ne}
+use Rattle.quick_folding.specs.Parts.{list_at}
+use Rattle.levels.specs.Cells.{need_cell}
+use native.Mathlib.Omega.{arith}
+use Rattle.quick_folding.proofs.until.Given as goal
+
+abbrev pub invariant-loop-x : goal.invariant-loop-x
+invariant-loop-x l = (l.i ≤ l.x) × (l.x ≤ l.count) × ((y : ℕ) → l.i ≤ y → y < l.x → need_cell l.k (get_or l.scratch (list_at l.n l.scratch y) 0) ≤ l.level)
+
+abbrev pub decreases-loop-x : goal.decreases-loop-x
+decreases-loop-x l = l.count - l.x
