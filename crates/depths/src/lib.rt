@@ -1,3 +1,4 @@
+#![tactic(auto)]
 // The depths of the rows of a table: the longest runs from the start, kept in scratch as leads.
 ghost use Rattle.std.specs.Prelude.{◌≡◌, ◌<◌, length};
 ghost use Rattle.rules.specs.Rules.{table_of};

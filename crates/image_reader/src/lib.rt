@@ -1,3 +1,4 @@
+#![tactic(auto)]
 // The image reader, for both forms: once the sections are judged, the table is copied into lent cells and mark bytes.
 ghost use Rattle.std.specs.Prelude.{◌≡◌, true, ℕ, ◌+◌, ◌*◌, ◌/◌, ◌≤◌, ◌<◌, length, take, drop};
 ghost use Rattle.tables.specs.Lists.{over};

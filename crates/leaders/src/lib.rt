@@ -1,3 +1,4 @@
+#![tactic(auto)]
 // The classes of a level above 0 where idle events stay: rows are near just if every counted event leads them to one class of the level before, which is
 // their signature. One table of leaders is gone on with from level to level, and only those are put again of which an event leads to a class that changed.
 ghost use Rattle.std.specs.Prelude.{◌*◌, ◌≤◌, ◌<◌};

@@ -1,3 +1,4 @@
+#![tactic(auto)]
 // The listing that `reduce` prints, as bytes in a lent buffer, from a place on and as far as there is room. Each function answers the place after what it wrote.
 ghost use Rattle.std.specs.Prelude.{◌≡◌, ◌++◌, get_or};
 ghost use Rattle.text.specs.Text.{decimal, joined, Puts};

@@ -1,3 +1,4 @@
+#![tactic(auto)]
 // What is known of two rows, in one cell: how far they are apart, and how their chosen run begins.
 ghost use Rattle.std.specs.Prelude.{◌≡◌};
 ghost use Rattle.pairs.specs.Pairs.{start_in, pair_from};

@@ -1,3 +1,4 @@
+#![tactic(auto)]
 // The leads of the rows of a table, in a few passes where no idle event leads to another row. They stand in region 0 of a scratch of 12 regions.
 ghost use Rattle.std.specs.Prelude.{◌≡◌, true, false, List, ℕ, ◌+◌, ◌*◌, ◌≤◌, ◌<◌, length, get_or};
 ghost use Rattle.rules.specs.Rules.{table_of};

@@ -1,3 +1,4 @@
+#![tactic(auto)]
 // The run that the cells of scratch tell of two rows, followed from one first event to the next.
 ghost use Rattle.std.specs.Prelude.{◌≡◌, length};
 ghost use Rattle.row_starts.specs.RowStarts.{starts_of_rows};

@@ -1,8 +1,6 @@
 use native.Mathlib.Omega.{arith}
-use borrow.Author.Rules.{rules}
 use Rattle.text.proofs.Buffer.{puts_then}
 use Rattle.text.proofs.Decimal.{decimal-one, decimal-more}
-use Prim.Native.Nat.{ℕ, ◌<◌}
 use Rattle.text.proofs.+put_number.Goals as goal
 
 pub returns-then-n-lt10 : goal.returns-then-n-lt10

@@ -1,0 +1,7 @@
+use Rattle.walks.proofs.Following.{next_right}
+use borrow.Author.Rules.{rules}
+use Rattle.walks.proofs.next.Goals as goal
+
+pub returns : goal.returns
+returns c = let a = c.args in
+    next_right a.scratch.now a.starts.now a.q a.p c.requires c.between-said.ensures c.number.ensures

@@ -1,0 +1,13 @@
+use Prim.Native.Nat.{◌≤◌}
+use mathlib.Core.Path.{◌≡◌, refl, ◌∙◌}
+use lib.ListN.{length}
+use native.Mathlib.Omega.{arith}
+use borrow.Author.Rules.{rules}
+use Rattle.walks.proofs.Following.{next_most, Following, follow-first, follow-next, follow-end, follow-all}
+use Rattle.walks.proofs.walk.Given as goal
+
+abbrev pub invariant-loop-left : goal.invariant-loop-left
+invariant-loop-left l = (l.left ≤ l.rows) × Following l.cells l.events l.scratch l.rows l.q l.p l.initial.run l.run l.at l.i l.j l.left × (length l.run ≡ length l.initial.run)
+
+abbrev pub decreases-loop-left : goal.decreases-loop-left
+decreases-loop-left l = l.left
