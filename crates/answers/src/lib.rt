@@ -1,3 +1,4 @@
+#![tactic(auto)]
 // Answers as four numbers, and offsets as one, for programs in C or Rust.
 ghost use Rattle.std.specs.Prelude.{◌≡◌};
 ghost use Rattle.rules.specs.Rules.{offset_of};

@@ -1,3 +1,4 @@
+#![tactic(auto)]
 // The image writer: it writes the image of a table, in either form, into lent bytes.
 ghost use Rattle.std.specs.Prelude.{◌≡◌, false, ℕ, ◌+◌, ◌*◌, ◌/◌, ◌≤◌, ◌<◌, length, get_or};
 ghost use Rattle.tables.specs.Lists.{over};

@@ -1,3 +1,4 @@
+#![tactic(auto)]
 // A stated load for the bench: the table that is drawn from a seed by Marsaglia's xorshift.
 ghost use Rattle.std.specs.Prelude.{◌≡◌, cond, ◌*◌, ◌%◌, ◌≤◌, ◌<◌, ltb, length};
 ghost use Rattle.xorshift.specs.Xorshift.{state as state_after, draw as draw_of};

@@ -1,3 +1,4 @@
+#![tactic(auto)]
 // What the images of a pack say, one after another, and what their tables need; nothing is lent.
 ghost use Rattle.std.specs.Prelude.{◌≡◌, false};
 ghost use Rattle.rules.specs.Rules.{winch};

@@ -1,3 +1,4 @@
+#![tactic(auto)]
 // The pack writer: it writes the radio images of tables that lie one after another, behind their count, into lent bytes.
 ghost use Rattle.std.specs.Prelude.{◌≡◌, ◌≤◌, length};
 ghost use Rattle.tables.specs.Lists.{over};

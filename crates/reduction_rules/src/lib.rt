@@ -1,3 +1,4 @@
+#![tactic(auto)]
 // What is judged of a table, a mask and the lent buffers before a table is reduced, on the scratch of either way; and the answer that it leads to.
 ghost use Rattle.std.specs.Prelude.{◌≡◌};
 ghost use Rattle.rules.specs.Rules.{table_of, judged};

@@ -1,6 +1,5 @@
 use Rattle.lines.specs.Lines.{head_line}
 use Rattle.text.proofs.Buffer.{puts_then}
-use borrow.Author.Rules.{rules}
 use Rattle.lines.proofs.put_head.Goals as goal
 
 pub returns : goal.returns

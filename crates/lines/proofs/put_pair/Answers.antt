@@ -1,6 +1,5 @@
 use Rattle.lines.specs.Lines.{pair_line}
 use Rattle.text.proofs.Buffer.{puts_then}
-use borrow.Author.Rules.{rules}
 use Rattle.lines.proofs.put_pair.Goals as goal
 
 pub returns : goal.returns

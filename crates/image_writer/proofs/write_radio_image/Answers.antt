@@ -1,0 +1,5 @@
+use borrow.Author.Rules.{rules}
+use Rattle.image_writer.proofs.write_radio_image.Goals as goal
+
+pub returns : goal.returns
+returns c = c.write_as.ensures

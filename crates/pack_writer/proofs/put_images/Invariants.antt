@@ -1,0 +1,12 @@
+use Prim.Native.Nat.{◌-◌}
+use lib.ListN.{length}
+use Rattle.pack_rules.proofs.Left.{cells_fit, marks_fit}
+use Rattle.pack_writer.proofs.Writing.{Going, going_all, going_none, never-refused, ends-within, going_next}
+use native.Mathlib.Omega.{arith}
+use Rattle.pack_writer.proofs.put_images.Given as goal
+
+abbrev pub invariant-loop-at : goal.invariant-loop-at
+invariant-loop-at l = Going l.list l.cells l.marks l.initial.out l.out l.at l.cell l.mark l.to
+
+abbrev pub decreases-loop-at : goal.decreases-loop-at
+decreases-loop-at l = length l.list - l.at
