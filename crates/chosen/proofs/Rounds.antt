@@ -7,7 +7,7 @@ use Prim.Native.Nat.{ℕ, suc, ◌+◌, ◌-◌, ◌≤◌, ◌<◌}
 use native.Mathlib.Omega.{arith}
 use native.Mathlib.Decide.{dec_le}
 use lib.ListN.{length}
-use Rattle.automata.specs.Runs.{Events, Machine, Sound, Light, size, Len, len, endless, IsDistance}
+use Rattle.automata.specs.Runs.{Events, Machine, Sound, Light, size, Len, len, IsDistance}
 use Rattle.tables.proofs.Lengths.{distance-one}
 use Rattle.chosen.specs.declared.First.{First}
 use Rattle.chosen.specs.declared.First.TheVariants.{Unsettled, End, Event}

@@ -1,3 +1,4 @@
+#![tactic(auto)]
 // The row into which each row of a table folds, on the scratch of either way: by pairs of rows, or by levels.
 ghost use Rattle.std.specs.Prelude.{◌≡◌, ◌+◌, ◌≤◌, length, get_or};
 ghost use Rattle.tables.specs.Lists.{tabulate, over};

@@ -1,3 +1,4 @@
+#![tactic(auto)]
 // What a program prints that reads a mask and an image of at most 128 rows: the definition is in specs/, its laws in proofs/. The code reads the offset, the mask and the image.
 ghost use Rattle.std.specs.Prelude.{◌≡◌, ◌+◌, ◌*◌};
 ghost use Rattle.rules.specs.Rules.{offset_of};

@@ -1,3 +1,4 @@
+#![tactic(auto)]
 // The distance of every pair of rows, with how its chosen run begins, and the depth of every row, in the lent scratch.
 ghost use Rattle.std.specs.Prelude.{◌≡◌, length};
 ghost use Rattle.rules.specs.Rules.{table_of};

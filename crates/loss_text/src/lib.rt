@@ -1,3 +1,4 @@
+#![tactic(auto)]
 // The line that says what is given up where a row is folded, in a lent buffer.
 ghost use Rattle.std.specs.Prelude.{◌++◌, length};
 ghost use Rattle.text.specs.Text.{decimal, joined, Puts};

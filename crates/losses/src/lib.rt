@@ -1,3 +1,4 @@
+#![tactic(auto)]
 // What a row gives up, told from a scratch that holds distances, first events, leads and folds.
 ghost use Rattle.std.specs.Prelude.{◌≡◌, length};
 ghost use Rattle.rules.specs.Rules.{left_by};

@@ -1,3 +1,4 @@
+#![tactic(auto)]
 // The pack reader: it reads the radio images of a pack, one after another, into a lent list, lent cells and lent mark bytes.
 ghost use Rattle.std.specs.Prelude.{◌≡◌, false, [], ◌∷◌, ◌+◌, ◌*◌, ◌-◌, ◌≤◌, length, drop};
 ghost use Rattle.tables.specs.Lists.{over};

@@ -1,3 +1,4 @@
+#![tactic(auto)]
 // The reduction of a table into lent cells and mark bytes.
 ghost use Rattle.std.specs.Prelude.{◌≡◌, length};
 ghost use Rattle.rules.specs.Rules.{table_of, offset_of, left_by};

@@ -1,3 +1,4 @@
+#![tactic(auto)]
 // The lines of a sheet in a lent buffer, by a list of the counts.
 ghost use Rattle.std.specs.Prelude.{◌≡◌, ◌-◌, length, get_or};
 ghost use Rattle.text.specs.Text.{joined, Puts};

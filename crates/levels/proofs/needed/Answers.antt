@@ -1,5 +1,4 @@
 use mathlib.Core.Path.{sym}
-use borrow.Author.Rules.{rules}
 use Rattle.levels.proofs.Cells.{need-endless, need-none, need-some}
 use Rattle.levels.proofs.needed.Goals as goal
 

@@ -3,7 +3,6 @@ use Prim.Native.Nat.{◌/◌, ◌%◌, ◌<◌}
 use native.Mathlib.Omega.{arith}
 use lib.ListN.{get_or}
 use lib.Seq.{set_out}
-use borrow.Author.Rules.{rules}
 use Rattle.marks.specs.Marks.{marked}
 use Rattle.marks.proofs.Bits.{clear_bit}
 use Rattle.marks.proofs.clear_mark.Goals as goal

@@ -1,7 +1,6 @@
 use mathlib.Core.Path.{sym}
 use native.Mathlib.Omega.{arith}
 use lib.Bits.{and_mask}
-use borrow.Author.Rules.{rules}
 use Rattle.marks.proofs.Bits.{beyond}
 use Rattle.marks.proofs.mark.Goals as goal
 

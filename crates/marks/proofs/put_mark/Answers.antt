@@ -2,7 +2,6 @@ use mathlib.Core.Path.{sym, ap, ◌∙◌}
 use mathlib.Core.Bool.{Bool, cond}
 use borrow.Author.Tests.{eq-eqb, ne_eqb}
 use Rattle.marks.specs.Marks.{marked}
-use borrow.Author.Rules.{rules}
 use Rattle.marks.proofs.put_mark.Goals as goal
 
 pub returns-then-mark-eq1 : goal.returns-then-mark-eq1

@@ -1,7 +1,6 @@
 use mathlib.Core.Bool.{true≢false}
 use native.Mathlib.Omega.{arith}
 use borrow.Author.Tests.{eq-eqb, ne_eqb, ltb-false}
-use borrow.Author.Rules.{rules}
 use Rattle.rules.proofs.beyond.Goals as goal
 
 pub returns-then-n-eq0 : goal.returns-then-n-eq0

@@ -2,7 +2,6 @@ use mathlib.Core.Path.{sym, ◌∙◌}
 use borrow.Author.Tests.{lt-ltb, le-ltb}
 use lib.ListN.{get_or-eq_default}
 use Rattle.rules.proofs.Judged.{spare-zero}
-use borrow.Author.Rules.{rules}
 use Rattle.rules.proofs.check_contents.Goals as goal
 
 pub returns-then-place-cells : goal.returns-then-place-cells

@@ -1,5 +1,4 @@
 use mathlib.Core.Path.{sym, ◌∙◌}
-use borrow.Author.Rules.{rules}
 use Rattle.rules.proofs.check_mask.Goals as goal
 
 pub returns-then-spare_bit : goal.returns-then-spare_bit

@@ -1,6 +1,5 @@
 use mathlib.Core.Path.{refl, sym}
 use native.Mathlib.Omega.{arith}
-use borrow.Author.Rules.{rules}
 use Rattle.weights.specs.Weights.{spare_bit_set}
 use Rattle.weights.proofs.Counts.{no_spare}
 use Rattle.weights.proofs.spare_bit.Goals as goal

@@ -1,0 +1,8 @@
+use mathlib.Core.Path.{ap}
+use Rattle.measures.specs.declared.Measure.{Measure}
+use Rattle.measures.proofs.Cells.{measure_read}
+use borrow.Author.Rules.{rules}
+use Rattle.losses.proofs.distance.Goals as goal
+
+pub returns : goal.returns
+returns c = ap (λ (m : Measure). m.distance) (measure_read _ _ _ _ c.table-starts.ensures c.between-said.ensures)

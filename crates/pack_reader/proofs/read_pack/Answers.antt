@@ -1,0 +1,73 @@
+use mathlib.Core.Path.{sym, ap, ◌∙◌}
+use lib.ListN.{length}
+use Rattle.image_numbers.proofs.Numbers.{number_cut}
+use Rattle.packs.specs.declared.Unpacked.TheVariants.{Tables}
+use Rattle.pack_reader.proofs.Reading.{pack_cut, count-outside, counted, needed-never, needed, unpacks_refused, short_list, short_cells, short-marks, unpacks-tables}
+use native.Mathlib.Omega.{arith}
+use borrow.Author.Rules.{rules}
+use Rattle.pack_reader.proofs.read_pack.Goals as goal
+
+pub returns-in_default : goal.returns-in_default
+returns-in_default c = let a = c.args in
+    let b = a.pack.now in
+    unpacks_refused b a.list.now a.cells.now a.marks.now 8 (length b) (pack_cut b (number_cut b 0 _ _ (sym c.number-head.ensures ∙ c.in_default.is)))
+
+pub returns-then-beyond : goal.returns-then-beyond
+returns-then-beyond c = let a = c.args in
+    let b = a.pack.now in
+    unpacks_refused b a.list.now a.cells.now a.marks.now 15 0 (count-outside b _ _ (sym c.number-head.ensures ∙ c.in-Got.is) (sym c.beyond.ensures.0 ∙ c.if-beyond.true))
+
+pub slice_bounds-judge-count : goal.slice_bounds-judge-count
+slice_bounds-judge-count c = let k = counted c.args.pack.now _ _ (sym c.number-head.ensures ∙ c.in-Got.is) (sym c.beyond.ensures.0 ∙ c.if-beyond.false) in
+    omega (arith, k.two)
+
+pub slice_bounds-judge-start : goal.slice_bounds-judge-start
+slice_bounds-judge-start c = let k = counted c.args.pack.now _ _ (sym c.number-head.ensures ∙ c.in-Got.is) (sym c.beyond.ensures.0 ∙ c.if-beyond.false) in
+    omega (arith, k.two)
+
+pub overflow_mul-count : goal.overflow_mul-count
+overflow_mul-count c = let k = counted c.args.pack.now _ _ (sym c.number-head.ensures ∙ c.in-Got.is) (sym c.beyond.ensures.0 ∙ c.if-beyond.false) in
+    record { fits = omega (arith, k.few) }
+
+pub returns-then-list-count : goal.returns-then-list-count
+returns-then-list-count c = let a = c.args in
+    let b = a.pack.now in
+    let k = counted b _ _ (sym c.number-head.ensures ∙ c.in-Got.is) (sym c.beyond.ensures.0 ∙ c.if-beyond.false) in
+    let n = needed k (λ i. (c.shared_slice_known-1.given i).fits) _ _ (sym c.judge-needs.ensures ∙ c.in-Room.is) in
+    short_list b a.list.now a.cells.now a.marks.now _ n.is (omega (arith, n.many))
+
+pub returns-then-cells-needed : goal.returns-then-cells-needed
+returns-then-cells-needed c = let a = c.args in
+    let b = a.pack.now in
+    let k = counted b _ _ (sym c.number-head.ensures ∙ c.in-Got.is) (sym c.beyond.ensures.0 ∙ c.if-beyond.false) in
+    let n = needed k (λ i. (c.shared_slice_known-1.given i).fits) _ _ (sym c.judge-needs.ensures ∙ c.in-Room.is) in
+    short_cells b a.list.now a.cells.now a.marks.now _ n.is (omega (arith, n.cells_are))
+
+pub returns-then-marks-bytes : goal.returns-then-marks-bytes
+returns-then-marks-bytes c = let a = c.args in
+    let b = a.pack.now in
+    let k = counted b _ _ (sym c.number-head.ensures ∙ c.in-Got.is) (sym c.beyond.ensures.0 ∙ c.if-beyond.false) in
+    let n = needed k (λ i. (c.shared_slice_known-1.given i).fits) _ _ (sym c.judge-needs.ensures ∙ c.in-Room.is) in
+    short-marks b a.list.now a.cells.now a.marks.now _ n.is (omega (arith, n.marks_are))
+
+pub take_images-requires : goal.take_images-requires
+take_images-requires c = let a = c.args in
+    let b = a.pack.now in
+    let k = counted b _ _ (sym c.number-head.ensures ∙ c.in-Got.is) (sym c.beyond.ensures.0 ∙ c.if-beyond.false) in
+    let n = needed k (λ i. (c.shared_slice_known-1.given i).fits) _ _ (sym c.judge-needs.ensures ∙ c.in-Room.is) in
+    (k.two, k.few, record { found = n.found; list_room = omega (arith, n.many); cells_room = omega (arith, n.cells_are); marks_room = omega (arith, n.marks_are) })
+
+pub returns-in-Refused : goal.returns-in-Refused
+returns-in-Refused c = let a = c.args in
+    let b = a.pack.now in
+    let k = counted b _ _ (sym c.number-head.ensures ∙ c.in-Got.is) (sym c.beyond.ensures.0 ∙ c.if-beyond.false) in
+    unpacks_refused b a.list.now a.cells.now a.marks.now _ _ (needed-never k _ _ (sym c.judge-needs.ensures ∙ c.in-Refused.is))
+
+pub returns-else-marks-bytes : goal.returns-else-marks-bytes
+returns-else-marks-bytes c = let a = c.args in
+    let b = a.pack.now in
+    let k = counted b _ _ (sym c.number-head.ensures ∙ c.in-Got.is) (sym c.beyond.ensures.0 ∙ c.if-beyond.false) in
+    let n = needed k (λ i. (c.shared_slice_known-1.given i).fits) _ _ (sym c.judge-needs.ensures ∙ c.in-Room.is) in
+    let u = unpacks-tables b a.list.now a.cells.now a.marks.now _ n.is (omega (arith, n.many)) (omega (arith, n.cells_are)) (omega (arith, n.marks_are)) in
+    let t = c.take_images.ensures in
+    (ap Tables (sym n.many) ∙ u.0, t.0 ∙ u.1, t.1 ∙ u.2, t.2 ∙ u.3)

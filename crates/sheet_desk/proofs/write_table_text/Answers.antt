@@ -1,0 +1,15 @@
+use mathlib.Core.Path.{sym}
+use lib.Seq.{length-take-le}
+use Rattle.text.proofs.Buffer.{puts_as}
+use Rattle.sheet_desk.proofs.Listed.{refusal_is, entries-part, text_is}
+use borrow.Author.Rules.{rules}
+use Rattle.sheet_desk.proofs.write_table_text.Goals as goal
+
+pub slice_bounds-list-end : goal.slice_bounds-list-end
+slice_bounds-list-end c = entries-part c.ranges.mask.fits c.requires.0 c.requires.1 c.write_sheet.ensures c.in-Entries.is c.write_sheet.auto.list
+
+pub returns-in-Refused : goal.returns-in-Refused
+returns-in-Refused c = puts_as (sym (refusal_is c.ranges.mask.fits c.requires.0 c.requires.1 c.write_sheet.ensures c.in-Refused.is)) c.put_refusal.ensures
+
+pub returns-in-Entries : goal.returns-in-Entries
+returns-in-Entries c = puts_as (sym (text_is c.ranges.mask.fits c.requires.0 c.requires.1 c.write_sheet.ensures c.in-Entries.is c.write_sheet.auto.list c.counted.ensures)) c.put_sheet.ensures
