@@ -1,3 +1,4 @@
+#![tactic(auto)]
 // The functions for programs in C or Rust: `rt staticlib exports`.
 ghost use Rattle.std.specs.Prelude.{◌≡◌, true, min, length, replicate};
 ghost use Rattle.tables.specs.Table.{weight_by};

@@ -1,9 +1,11 @@
+#![tactic(auto)]
 // A follower over more events than its count holds, over runs with events that do not count, and the refusals of an event:
 // 5, 11, 4 and 16. Lines are put into one buffer, each function from a place on.
 use follower::{Begun, Outcome, Shown};
 use following::Follower;
 use lines::put_refusal;
 use rules::{Offset, Verdict};
+use std::io;
 use text::{put_byte, put_cell, put_number, put_text};
 
 // A mark, and whether it is settled.
@@ -71,11 +73,9 @@ fn put_some(out: &mut [u8], at: usize, n: usize, f: Follower) -> usize {
 fn long_run(out: &mut [u8], at: usize, start: Follower) -> usize {
     let mut next = at;
     let mut f = start;
-    let mut n = 0;
-    while n < 65540 {
+    for n in 0..65540 {
         next = put_some(out, next, n, f);
         f = moved(1, f, 0);
-        n += 1;
     }
     next
 }
@@ -110,12 +110,9 @@ fn put_in_ring(out: &mut [u8], at: usize, event: usize, f: Follower) -> usize {
 fn ring_run(out: &mut [u8], at: usize, mask: u32, events: &[usize]) -> usize {
     let mut next = at;
     let mut f = Follower { row: 0, count: 0 };
-    let mut i = 0;
-    while i < events.len() {
-        let event = events[i];
-        f = moved(mask, f, event);
-        next = put_in_ring(out, next, event, f);
-        i += 1;
+    for event in events {
+        f = moved(mask, f, *event);
+        next = put_in_ring(out, next, *event, f);
     }
     next
 }
@@ -170,8 +167,8 @@ fn spare_bits(out: &mut [u8], at: usize) -> usize {
 }
 
 // In the ring event 0 counts, then event 1, then none: each event moves the follower.
-fn main() {
-    let mut out = io::large_buffer();
+fn main(rt: HostRuntime) -> io::Result<()> {
+    let mut out = [0u8; 65536];
     let mut n = run(&mut out);
     n = all_counted(&mut out, n);
     n = ring_run(&mut out, n, 1, &[1, 0, 1, 1, 0, 0, 1]);
@@ -180,5 +177,6 @@ fn main() {
     n = last_counted(&mut out, n, 31);
     n = last_counted(&mut out, n, 30);
     n = spare_bits(&mut out, n);
-    printing::print(&out, n);
+    printing::print(&mut rt.stdout(), &out, n)?;
+    Ok(())
 }

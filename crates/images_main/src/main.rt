@@ -1,9 +1,11 @@
+#![tactic(auto)]
 // Document 01's small examples of refusals 1 to 7, by the image writer, and an image written and read back. What the reader refuses is
 // run by the independent cutter. Lines are put into one buffer, each function from a place on.
 use image_rules::Written;
 use image_sections::Read;
 use lines::put_refusal;
 use printing::{put_cells, put_line};
+use std::io;
 
 // What the writer answers.
 fn put_written(out: &mut [u8], at: usize, w: Written) -> usize {
@@ -79,17 +81,15 @@ fn read(out: &mut [u8], at: usize, image: &[u8]) -> usize {
 // Bytes as numbers.
 fn numbers(bytes: &[u8; 17]) -> [usize; 17] {
     let mut numbers = [0; 17];
-    let mut i = 0;
-    while i < 17 {
+    for i in 0..17 {
         numbers[i] = wide(bytes[i]);
-        i += 1;
     }
     numbers
 }
 
 // At last rule 7, just enough room, and room to spare, which stays as it was; then an image is read back.
-fn main() {
-    let mut out = io::large_buffer();
+fn main(rt: HostRuntime) -> io::Result<()> {
+    let mut out = [0u8; 65536];
     let mut n = sizes(&mut out, 0);
     n = unsound(&mut out, n);
     n = write_a(&mut out, n, &mut [99; 14]);
@@ -99,5 +99,6 @@ fn main() {
     n = write_a(&mut out, n, &mut more);
     n = put_line(&mut out, n, b"bytes", &numbers(&more));
     n = read(&mut out, n, &enough);
-    printing::print(&out, n);
+    printing::print(&mut rt.stdout(), &out, n)?;
+    Ok(())
 }

@@ -1,20 +1,44 @@
-// Standard input, for programs that read all of it into a buffer.
-ghost use Rattle.std.specs.Prelude.{true, ◌≡◌, ◌≤◌};
+#![tactic(auto)]
+// Input, for programs that read all of it into a buffer.
+ghost use Rattle.std.specs.Prelude.{true, Ok, ◌≡◌, ◌<◌, ◌≤◌, length, take, IfOk};
+ghost use Rattle.std.specs.Io.KnownBytes.{Consumes, IsAtEnd};
 
-use libc::STDIN_FILENO;
+use std::io;
+use std::io::Read;
 
-// Whether the input is at its end. A read that fails is told from it: `io::read_full` stops at both.
-fn at_end() -> bool {
+// Reads until the buffer is full or the input ends, and answers how many bytes it put at the buffer's start.
+pub fn read_full<R: Read>(source: &mut R, buffer: &mut [u8]) -> io::Result<usize>
+    ensures within { IfOk result (λ n. n ≤ length buffer.new) }
+    ensures bytes { IfOk result (λ n. Consumes (R.remaining source.old) (R.remaining source.new) (take n buffer.new)) }
+    ensures end { IfOk result (λ n. n < length buffer.new → IsAtEnd (R.remaining source.new)) }
+{
+    let mut done = 0;
+    while done < buffer.len() {
+        let n = source.read(&mut buffer[done..])?;
+        if n == 0 {
+            return Ok(done);
+        }
+        done += n;
+    }
+    Ok(done)
+}
+
+// Whether the input is at its end.
+fn at_end<R: Read>(source: &mut R) -> io::Result<bool>
+    ensures { IfOk result (λ ended. ended ≡ true → IsAtEnd (R.remaining source.new)) }
+{
     let mut one = [0u8; 1];
-    libc::read(STDIN_FILENO, &mut one) == 0
+    let n = source.read(&mut one)?;
+    Ok(n == 0)
 }
 
 // Whether the n bytes that were read are all that the buffer takes: they fill it, or the input is at its end.
-pub fn all_read(n: usize, room: usize) -> bool
-    ensures { room ≤ n → result ≡ true }
+pub fn all_read<R: Read>(source: &mut R, n: usize, room: usize) -> io::Result<bool>
+    ensures full { room ≤ n → result ≡ Ok true }
+    ensures end { n < room → IfOk result (λ all. all ≡ true → IsAtEnd (R.remaining source.new)) }
 {
     if n < room {
-        return at_end();
+        return at_end(source);
     }
-    true
+    Ok(true)
 }

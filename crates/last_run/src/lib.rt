@@ -1,3 +1,4 @@
+#![tactic(auto)]
 // The last run that differs: what a row gives up if it is folded.
 ghost use Rattle.std.specs.Prelude.{length};
 ghost use Rattle.tables.specs.Table.{weight_by};

@@ -1,3 +1,4 @@
+#![tactic(auto)]
 // What the program `given_up` makes of the bytes that it reads: the text that it prints.
 ghost use Rattle.std.specs.Prelude.{◌≡◌, ◌≤◌, min, length};
 ghost use Rattle.tables.specs.Table.{Valid};

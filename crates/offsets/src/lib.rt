@@ -1,3 +1,4 @@
+#![tactic(auto)]
 // The fewest rows at every offset, on one sheet.
 ghost use Rattle.std.specs.Prelude.{length};
 ghost use Rattle.rules.specs.Rules.{table_of};

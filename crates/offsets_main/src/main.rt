@@ -1,8 +1,10 @@
+#![tactic(auto)]
 // The sheets of document 01's tables to try and of tables with idle events, and the refusals 1 to 7, 13 and 16: the answer, then the lent list and the scratch as they
 // are afterwards. Both are lent with a number in each cell and, but for 7 and 13, longer than named. Lines are put into one buffer.
 use lines::put_refusal;
 use offsets::Listed;
 use printing::{put_cells, put_line};
+use std::io;
 
 // Puts what is answered.
 fn put_answer(out: &mut [u8], at: usize, answer: Listed) -> usize {
@@ -108,12 +110,13 @@ fn rooms(out: &mut [u8], at: usize) -> usize {
     put_c(out, thirteen, 1, &mut all, &mut enough)
 }
 
-fn main() {
-    let mut out = io::large_buffer();
+fn main(rt: HostRuntime) -> io::Result<()> {
+    let mut out = [0u8; 65536];
     let mut n = tables_a_to_d(&mut out, 0);
     n = tables_e_to_idle(&mut out, n);
     n = refusals_1_to_3(&mut out, n);
     n = refusals_4_to_6(&mut out, n);
     n = rooms(&mut out, n);
-    printing::print(&out, n);
+    printing::print(&mut rt.stdout(), &out, n)?;
+    Ok(())
 }

@@ -1,9 +1,12 @@
+#![tactic(auto)]
 // What programs print with: the lines of the test programs, put into a lent buffer from a place on as `text` puts their parts, and the call that prints a buffer.
-ghost use Rattle.std.specs.Prelude.{◌≡◌, ◌++◌, min, length};
+ghost use Rattle.std.specs.Prelude.{◌≡◌, ◌++◌, min, length, take, IfOk, OnOk};
+ghost use Rattle.std.specs.Io.KnownBytes.{Appends};
 ghost use Rattle.text.specs.Text.{text, decimal, Puts};
 ghost use Rattle.printing.specs.Lines.{line};
 
-use libc::STDOUT_FILENO;
+use std::io;
+use std::io::Write;
 use text::{put_byte, put_number, put_text};
 
 // A number after a space.
@@ -52,14 +55,12 @@ fn least(a: usize, b: usize) -> usize
     if a < b { a } else { b }
 }
 
-// Writes the first n bytes of a buffer to standard output, as far as there are so many, and answers how many that are. A write that
-// fails is told on standard error.
-pub fn print(out: &[u8], n: usize) -> usize
-    ensures { result ≡ min n (length out.now) }
+// Writes the first n bytes of a buffer, as far as there are so many, and answers how many that are. A write that fails is an error.
+pub fn print<W: Write>(to: &mut W, out: &[u8], n: usize) -> io::Result<usize>
+    ensures count { IfOk result (λ k. k ≡ min n (length out.now)) }
+    ensures written { OnOk result (Appends (W.contents to.old) (W.contents to.new) (take (min n (length out.now)) out.now)) }
 {
     let count = least(n, out.len());
-    if !io::write_all(STDOUT_FILENO, &out[..count]) {
-        os::fail(b"standard output");
-    }
-    count
+    to.write_all(&out[..count])?;
+    Ok(count)
 }

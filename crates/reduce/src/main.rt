@@ -1,16 +1,18 @@
+#![tactic(auto)]
 // `reduce`: reads an offset, a mask of the events that count and an image from standard input, and prints the listing of the reduced table, or the refusal.
-use libc::STDIN_FILENO;
+use std::io;
 
 // Input that fills the buffer is longer than any sound one, and is refused whatever follows. There is room for all of the text
 // (`short` in crates/desk/proofs/Short.antt).
-fn main() {
-    let mut input = io::large_buffer();
-    let n = io::read_full(STDIN_FILENO, &mut input);
-    if !input::all_read(n, 65536) {
-        os::fail(b"reduce: standard input");
-        return;
+fn main(rt: HostRuntime) -> io::Result<()> {
+    let mut source = rt.stdin();
+    let mut input = [0u8; 65536];
+    let n = input::read_full(&mut source, &mut input)?;
+    if !input::all_read(&mut source, n, 65536)? {
+        return Err(io::Error::other("reduce: standard input"));
     }
-    let mut out = io::large_buffer();
+    let mut out = [0u8; 65536];
     let length = desk::write_text(&input[..n], &mut out);
-    printing::print(&out, length);
+    printing::print(&mut rt.stdout(), &out, length)?;
+    Ok(())
 }

@@ -1,3 +1,4 @@
+#![tactic(auto)]
 // The reducer: it shortens a table into lent cells and mark bytes, with a record of what became of each given row.
 ghost use Rattle.std.specs.Prelude.{◌≡◌, length};
 ghost use Rattle.rules.specs.Rules.{table_of, offset_of};

@@ -1,3 +1,4 @@
+#![tactic(auto)]
 // Table D of document 01 through the reducer with its records, on just the scratch that each way needs. The other tables to try and the
 // edges are run by the independent cutter. Lines are put into one buffer, each function from a place on.
 use lines::put_refusal;
@@ -7,17 +8,16 @@ use records::{Depth, Fate, Record};
 use reducer::Outcome;
 use reduction_rules::Answer;
 use rules::Offset;
+use std::io;
 use text::put_text;
 use ways::Way;
 
 // Says so if a cell is not cleared.
 fn put_uncleared(out: &mut [u8], at: usize, cells: &[u16]) -> usize {
-    let mut i = 0;
-    while i < cells.len() {
-        if cells[i] != 0 {
+    for cell in cells {
+        if *cell != 0 {
             return put_text(out, at, b"scratch not cleared\n");
         }
-        i += 1;
     }
     at
 }
@@ -61,9 +61,10 @@ fn table_d(out: &mut [u8], at: usize, name: &[u8], way: Way, scratch: &mut [u16]
     put_uncleared(out, listed, scratch)
 }
 
-fn main() {
-    let mut out = io::large_buffer();
+fn main(rt: HostRuntime) -> io::Result<()> {
+    let mut out = [0u8; 65536];
     let mut n = table_d(&mut out, 0, b"22 cells", Way::First, &mut [9999; 22]);
     n = table_d(&mut out, n, b"48 cells", Way::Second, &mut [9999; 48]);
-    printing::print(&out, n);
+    printing::print(&mut rt.stdout(), &out, n)?;
+    Ok(())
 }

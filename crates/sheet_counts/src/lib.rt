@@ -1,3 +1,4 @@
+#![tactic(auto)]
 // How many rows are kept at each offset, found in a scratch that holds the leads of the rows and how far they are from those before them.
 ghost use Rattle.std.specs.Prelude.{◌≡◌, ◌+◌, ◌*◌, ◌≤◌, ◌<◌, length, get_or};
 ghost use Rattle.tables.specs.Lengths.{one_less};

@@ -1,8 +1,6 @@
 use Rattle.rules.specs.Rules.{winch, shape_checks, table_of}
 use Rattle.rules.proofs.Judged.{judged-append}
 use Rattle.following.specs.Moves.{cell_checks, advanced}
-use Rattle.rules.proofs.Shape.{shape_fine}
-use borrow.Author.Rules.{rules}
 use Rattle.following.proofs.advance.Goals as goal
 
 pub returns-in-Refused : goal.returns-in-Refused

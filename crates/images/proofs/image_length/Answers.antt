@@ -1,7 +1,5 @@
-use Rattle.images.specs.Image.{width}
 use Rattle.images.proofs.Targets.{targets_most}
 use native.Mathlib.Omega.{arith}
-use borrow.Author.Rules.{rules}
 use Rattle.images.proofs.image_length.Goals as goal
 
 pub overflow_mul-result : goal.overflow_mul-result

@@ -1,7 +1,6 @@
-use Prim.Native.Nat.{◌-◌}
 use Rattle.rules.specs.Rules.{table_of}
 use Rattle.renumbering.proofs.Lines.{line_again}
-use Rattle.renumbering.proofs.Lining.{targets, in_line, Gone, gone_fits, gone-first, row_below, gone-next, gone-all}
+use Rattle.renumbering.proofs.Lining.{targets, in_line, gone_fits, gone-first, row_below, gone-next, gone-all}
 use native.Mathlib.Omega.{arith}
 use Rattle.renumbering.proofs.go_through.Goals as goal
 

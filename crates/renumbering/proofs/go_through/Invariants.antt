@@ -1,8 +1,6 @@
 use Prim.Native.Nat.{◌-◌}
 use Rattle.rules.specs.Rules.{table_of}
-use Rattle.renumbering.proofs.Lines.{line_again}
-use Rattle.renumbering.proofs.Lining.{targets, in_line, Gone, gone_fits, gone-first, row_below, gone-next, gone-all}
-use native.Mathlib.Omega.{arith}
+use Rattle.renumbering.proofs.Lining.{Gone}
 use Rattle.renumbering.proofs.go_through.Given as goal
 
 abbrev pub invariant-loop-i : goal.invariant-loop-i

@@ -3,7 +3,6 @@ use lib.ListN.{length-set}
 use Prim.Native.Nat.{◌+◌}
 use Rattle.renumbering.proofs.Lines.{join_in, join-room, join-out}
 use native.Mathlib.Omega.{arith}
-use borrow.Author.Rules.{rules}
 use Rattle.renumbering.proofs.join.Goals as goal
 
 pub returns-then-scratch-n-ne0 : goal.returns-then-scratch-n-ne0

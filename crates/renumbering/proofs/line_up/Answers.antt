@@ -1,8 +1,6 @@
-use Prim.Native.Nat.{◌-◌}
 use Rattle.rules.specs.Rules.{table_of}
 use Rattle.renumbering.proofs.Lining.{line-empty, empty-frame, first-there, lines-all}
 use native.Mathlib.Omega.{arith}
-use borrow.Author.Rules.{rules}
 use Rattle.renumbering.proofs.line_up.Goals as goal
 
 pub overflow_mul-n : goal.overflow_mul-n

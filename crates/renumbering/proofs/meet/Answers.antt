@@ -1,9 +1,9 @@
 use mathlib.Core.Path.{ap, ◌∙◌}
-use Prim.Native.Nat.{◌+◌, ◌*◌, ◌-◌, ◌≤◌}
+use Prim.Native.Nat.{◌+◌, ◌*◌}
 use lib.Arith.{digits_lt}
 use Rattle.renumbering.specs.Line.{fold_row}
 use Rattle.renumbering.proofs.Lines.{line_again}
-use Rattle.renumbering.proofs.Meeting.{so_far, Met, none-met, met_fits, meets, all-met}
+use Rattle.renumbering.proofs.Meeting.{so_far, none-met, met_fits, meets, all-met}
 use native.Mathlib.Omega.{arith}
 use Rattle.renumbering.proofs.meet.Goals as goal
 

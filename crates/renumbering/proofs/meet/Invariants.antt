@@ -1,10 +1,5 @@
-use mathlib.Core.Path.{ap, ◌∙◌}
-use Prim.Native.Nat.{◌+◌, ◌*◌, ◌-◌, ◌≤◌}
-use lib.Arith.{digits_lt}
-use Rattle.renumbering.specs.Line.{fold_row}
-use Rattle.renumbering.proofs.Lines.{line_again}
-use Rattle.renumbering.proofs.Meeting.{so_far, Met, none-met, met_fits, meets, all-met}
-use native.Mathlib.Omega.{arith}
+use Prim.Native.Nat.{◌-◌, ◌≤◌}
+use Rattle.renumbering.proofs.Meeting.{Met}
 use Rattle.renumbering.proofs.meet.Given as goal
 
 abbrev pub invariant-loop-a : goal.invariant-loop-a

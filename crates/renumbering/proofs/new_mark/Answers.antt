@@ -1,6 +1,5 @@
 use Rattle.renumbering.proofs.Writing.{new_mark_in, new_mark-none}
 use mathlib.Core.Path.{sym}
-use borrow.Author.Rules.{rules}
 use Rattle.renumbering.proofs.new_mark.Goals as goal
 
 pub returns-then-i-count : goal.returns-then-i-count

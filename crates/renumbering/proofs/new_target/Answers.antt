@@ -1,8 +1,7 @@
-use Prim.Native.Nat.{◌+◌, ◌-◌, ◌*◌, ◌<◌}
+use Prim.Native.Nat.{◌+◌, ◌*◌, ◌<◌}
 use lib.Arith.{digits_lt}
 use Rattle.renumbering.proofs.Writing.{line_row, new_target_is}
 use native.Mathlib.Omega.{arith}
-use borrow.Author.Rules.{rules}
 use Rattle.renumbering.proofs.new_target.Goals as goal
 
 pub overflow_mul-row : goal.overflow_mul-row

@@ -7,7 +7,6 @@ use Rattle.rules.specs.Rules.{table_of}
 use Rattle.scratch.proofs.Works.{small-rows, fine_valid, not-fine, fine-room}
 use Rattle.renumbering.proofs.Left.{no_room, has_room, not-workable, scratch_short, cells_short, marks_short, all_room}
 use native.Mathlib.Omega.{arith}
-use borrow.Author.Rules.{rules}
 use mathlib.Core.Bool.{not}
 use mathlib.Core.Path.{ap}
 use Rattle.renumbering.proofs.renumber.Goals as goal

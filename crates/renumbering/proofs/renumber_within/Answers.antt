@@ -4,7 +4,6 @@ use Rattle.rules.specs.Rules.{table_of}
 use Rattle.renumbering.proofs.Lining.{targets}
 use Rattle.renumbering.proofs.Left.{lined_count, lined_again, total_fits, left-rows, left_cells, left_marks}
 use native.Mathlib.Omega.{arith}
-use borrow.Author.Rules.{rules}
 use Rattle.renumbering.proofs.renumber_within.Goals as goal
 
 pub write_cells-requires : goal.write_cells-requires

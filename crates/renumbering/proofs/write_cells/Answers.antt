@@ -1,8 +1,8 @@
-use mathlib.Core.Path.{◌≡◌, refl, sym, ◌∙◌}
-use Prim.Native.Nat.{◌*◌, ◌/◌, ◌%◌, ◌-◌, ◌≤◌, ◌<◌}
+use mathlib.Core.Path.{refl, sym, ◌∙◌}
+use Prim.Native.Nat.{◌*◌, ◌/◌, ◌≤◌, ◌<◌}
 use native.Mathlib.Nat.{zero-div, zero-mod, mod-lt, mul-le-mul, div-lt_iff_lt-mul}
-use lib.ListN.{length, take, length-set}
-use Rattle.tables.specs.Lists.{tabulate, over}
+use lib.ListN.{length-set}
+use Rattle.tables.specs.Lists.{tabulate}
 use Rattle.tables.proofs.Lists.{tabulate-length}
 use Rattle.tables.proofs.Over.{over_none, over-all, tabulate-next}
 use Rattle.renumbering.specs.Line.{target_of_new}

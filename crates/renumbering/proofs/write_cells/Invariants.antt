@@ -1,13 +1,8 @@
-use mathlib.Core.Path.{◌≡◌, refl, sym, ◌∙◌}
-use Prim.Native.Nat.{◌*◌, ◌/◌, ◌%◌, ◌-◌, ◌≤◌, ◌<◌}
-use native.Mathlib.Nat.{zero-div, zero-mod, mod-lt, mul-le-mul, div-lt_iff_lt-mul}
-use lib.ListN.{length, take, length-set}
+use mathlib.Core.Path.{◌≡◌}
+use Prim.Native.Nat.{◌*◌, ◌/◌, ◌%◌, ◌-◌, ◌≤◌}
+use lib.ListN.{length, take}
 use Rattle.tables.specs.Lists.{tabulate, over}
-use Rattle.tables.proofs.Lists.{tabulate-length}
-use Rattle.tables.proofs.Over.{over_none, over-all, tabulate-next}
 use Rattle.renumbering.specs.Line.{target_of_new}
-use Rattle.renumbering.proofs.Writing.{same_row, next_row}
-use native.Mathlib.Omega.{arith}
 use Rattle.renumbering.proofs.write_cells.Given as goal
 
 abbrev pub invariant-loop-c : goal.invariant-loop-c

@@ -1,7 +1,6 @@
-use mathlib.Core.Path.{◌≡◌, ap}
-use Prim.Native.Nat.{ℕ, ◌-◌, ◌*◌, ◌≤◌}
-use Rattle.tables.specs.Table.{mark_byte_count}
-use Rattle.marks.proofs.Marking.{Marking, marking_none, marking_next, marking_all}
+use mathlib.Core.Path.{ap}
+use Prim.Native.Nat.{ℕ, ◌*◌}
+use Rattle.marks.proofs.Marking.{marking_none, marking_next, marking_all}
 use Rattle.renumbering.specs.Line.{mark_of_new}
 use Rattle.renumbering.proofs.Writing.{new_mark-none, new_mark-small}
 use native.Mathlib.Omega.{arith}

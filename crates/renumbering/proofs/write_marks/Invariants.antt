@@ -1,10 +1,9 @@
-use mathlib.Core.Path.{◌≡◌, ap}
-use Prim.Native.Nat.{ℕ, ◌-◌, ◌*◌, ◌≤◌}
+use mathlib.Core.Path.{◌≡◌}
+use Prim.Native.Nat.{◌-◌, ◌*◌, ◌≤◌}
 use Rattle.tables.specs.Table.{mark_byte_count}
-use Rattle.marks.proofs.Marking.{Marking, marking_none, marking_next, marking_all}
+use Rattle.marks.proofs.Marking.{Marking}
 use Rattle.renumbering.specs.Line.{mark_of_new}
-use Rattle.renumbering.proofs.Writing.{new_mark-none, new_mark-small}
-use native.Mathlib.Omega.{arith}
+use Rattle.renumbering.proofs.Writing.{new_mark-small}
 use Rattle.renumbering.proofs.write_marks.Given as goal
 
 abbrev pub invariant-loop-i : goal.invariant-loop-i

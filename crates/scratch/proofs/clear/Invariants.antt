@@ -1,10 +1,7 @@
-use mathlib.Core.Path.{◌≡◌, refl, sym, ap, ◌∙◌}
-use Prim.Native.Nat.{ℕ, ◌-◌, ◌≤◌}
-use native.Mathlib.Omega.{arith}
-use lib.ListN.{length, replicate, length-set}
+use mathlib.Core.Path.{◌≡◌}
+use Prim.Native.Nat.{◌-◌, ◌≤◌}
+use lib.ListN.{length, replicate}
 use Rattle.tables.specs.Lists.{over}
-use Rattle.tables.proofs.Over.{over_none}
-use Rattle.scratch.proofs.Cells.{clear_short, clear_next, clear_all}
 use Rattle.scratch.proofs.clear.Given as goal
 
 abbrev pub invariant-loop-i : goal.invariant-loop-i

@@ -1,10 +1,6 @@
-use Prim.Native.Nat.{ℕ, ◌+◌, ◌-◌, ◌≤◌}
-use mathlib.Core.Path.{◌≡◌, sym, ap, ◌∙◌}
-use mathlib.Core.Bool.{false≢true}
-use borrow.Author.Tests.{eqb-true, eqb-false}
+use Prim.Native.Nat.{◌-◌, ◌≤◌}
+use mathlib.Core.Path.{◌≡◌}
 use Rattle.scratch.specs.Tests.{tally}
-use Rattle.scratch.proofs.Tallies.{tally-none, tally_hit, tally_miss}
-use native.Mathlib.Omega.{arith}
 use Rattle.scratch.proofs.once.Given as goal
 
 abbrev pub invariant-loop-i : goal.invariant-loop-i

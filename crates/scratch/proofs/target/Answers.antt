@@ -2,7 +2,6 @@ use mathlib.Core.Path.{◌∙◌}
 use Rattle.scratch.proofs.Cells.{same_place}
 use native.Mathlib.Omega.{arith}
 use Rattle.scratch.proofs.Numbers.{product_bound}
-use borrow.Author.Rules.{rules}
 use Rattle.scratch.proofs.target.Goals as goal
 
 pub overflow_mul-wide : goal.overflow_mul-wide

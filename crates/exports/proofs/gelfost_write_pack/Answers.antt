@@ -1,0 +1,8 @@
+use mathlib.Core.Path.{ap, ◌∙◌}
+use Rattle.answers.specs.Answers.{of_written}
+use borrow.Author.Rules.{rules}
+use Rattle.exports.proofs.gelfost_write_pack.Goals as goal
+
+pub returns : goal.returns
+returns c = let w = c.write_pack-written.ensures in
+    (w.1, c.put_written.ensures ∙ ap of_written w.0)
