@@ -1,3 +1,4 @@
+#![tactic(auto)]
 // How far each row is from the rows before it in the order, on the scratch for all pairs of rows: by the pairs, or without distances by levels.
 ghost use Rattle.std.specs.Prelude.{◌≡◌, ◌≤◌, length};
 ghost use Rattle.rules.specs.Rules.{table_of};

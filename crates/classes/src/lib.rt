@@ -1,3 +1,4 @@
+#![tactic(auto)]
 // The classes of a level among the rows at hand: from one class by splits that keep like rows together, until no row is unlike the first of its class.
 ghost use Rattle.std.specs.Prelude.{◌≡◌, true, false, [], ◌⊎◌, ℕ, ◌+◌, ◌*◌, ◌≤◌, ◌<◌, eqb, length, get_or};
 ghost use Rattle.tables.specs.Table.{mark_of};

@@ -1,7 +1,7 @@
 -- What the whole search leaves in scratch, and how it is read back.
 use mathlib.Core.Path.{◌≡◌, refl, sym, ap, subst, ◌∙◌}
 use mathlib.Core.Bool.{Bool, true, false, not}
-use mathlib.Core.List.{List, []}
+use mathlib.Core.List.{List}
 use Prim.Native.Nat.{ℕ, ◌+◌, ◌-◌, ◌≤◌, ◌<◌}
 use native.Mathlib.Omega.{arith}
 use borrow.Author.Tests.{not-true, not-false, le-ltb}
@@ -13,7 +13,7 @@ use Rattle.tables.specs.Lengths.{lead}
 use Rattle.tables.specs.Reduction.{order, kept, fold, similar}
 use Rattle.tables.proofs.Lists.{tabulate-length, tabulate-at}
 use Rattle.tables.proofs.Over.{over-length, over_inside, over-before, over-behind, over_again, over_swap}
-use Rattle.pairs.specs.Pairs.{triangle, leads_at, queue_start, folds_start, pair_at, lead_at, workable}
+use Rattle.pairs.specs.Pairs.{leads_at, queue_start, folds_start, pair_at, lead_at, workable}
 use Rattle.pairs.proofs.Pairs.{pair_lift}
 use Rattle.scratch.specs.Scratch.{len_cell, cleared}
 use Rattle.pairs.proofs.Works.{workable_shape}

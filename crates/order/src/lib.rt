@@ -1,3 +1,4 @@
+#![tactic(auto)]
 // Tables put in order: pairs of rows are met level by level from the starts, until the marks of one differ; then what the pairs of the last level say is told back to those before it.
 ghost use Rattle.std.specs.Prelude.{◌≡◌, suc, ◌+◌, ◌-◌, ◌*◌, ◌/◌, ◌%◌, ◌≤◌, ◌<◌, length, get_or, set, replicate};
 ghost use Rattle.rules.specs.Rules.{table_of, left_by};

@@ -1,7 +1,7 @@
 -- The triangle of pairs: where its rows begin, and that no two pairs share a cell.
 use Prim.Native.Nat.{ℕ, zero, suc, ◌+◌, ◌-◌, ◌*◌, ◌/◌, ◌≤◌, ◌<◌}
 use mathlib.Core.Path.{◌≡◌, refl, ap, ◌∙◌}
-use mathlib.Core.Logic.{◌⊎◌, ⊎_elim}
+use mathlib.Core.Logic.{⊎_elim}
 use native.Mathlib.Nat.{mul-suc, suc-mul, eq-or-lt_of_le, le_of_eq}
 use native.Mathlib.Omega.{arith}
 use Rattle.row_starts.proofs.Rule.{start_next}

@@ -1,6 +1,5 @@
 -- What the work leaves, refused or not.
 use mathlib.Core.Path.{◌≡◌, refl, sym, ap, subst, ◌∙◌}
-use mathlib.Core.Bool.{true}
 use mathlib.Core.List.{List}
 use Prim.Native.Nat.{ℕ, ◌*◌, ◌≤◌, ◌<◌}
 use native.Mathlib.Omega.{arith}
@@ -11,7 +10,6 @@ use Rattle.tables.specs.Reduction.{reduced}
 use Rattle.rules.specs.Rules.{left_by}
 use Rattle.rules.specs.declared.Verdict.{Verdict}
 use Rattle.rules.specs.declared.Verdict.TheVariants.{Fine, Refused}
-use Rattle.scratch.specs.Scratch.{workable_in}
 use Rattle.scratch.proofs.Works.{valid_within}
 use Rattle.renumbering.specs.Renumber.{left}
 use Rattle.renumbering.proofs.Left.{all_room, room-told}

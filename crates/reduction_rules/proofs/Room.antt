@@ -1,8 +1,8 @@
 -- Rule 7, check by check, and what it means that no rule is broken.
 use mathlib.Core.Path.{◌≡◌, sym, ap, subst, ◌∙◌}
 use mathlib.Core.Bool.{true, false}
-use mathlib.Core.List.{List, [], ◌∷◌}
-use Prim.Native.Nat.{ℕ, ◌-◌, ◌*◌, ◌≤◌, ◌<◌}
+use mathlib.Core.List.{List, ◌∷◌}
+use Prim.Native.Nat.{ℕ, ◌*◌, ◌≤◌, ◌<◌}
 use borrow.Author.Tests.{ltb-false}
 use lib.ListN.{get_or}
 use Rattle.tables.specs.Table.{Table, Valid, mark_byte_count}

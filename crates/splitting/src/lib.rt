@@ -1,3 +1,4 @@
+#![tactic(auto)]
 // Splitting the classes of places by their keys, in one pass over the places, with a table in which each slot is taken once.
 ghost use Rattle.std.specs.Prelude.{◌≡◌, ◌*◌, ◌≤◌, ◌<◌, length};
 ghost use Rattle.scratch.specs.Tests.{Tested};

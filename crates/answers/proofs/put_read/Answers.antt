@@ -1,6 +1,5 @@
 use mathlib.Core.Path.{sym, ap, ◌∙◌}
 use Rattle.answers.specs.Answers.{of_read}
-use borrow.Author.Rules.{rules}
 use Rattle.answers.proofs.put_read.Goals as goal
 
 pub returns-in-Table : goal.returns-in-Table

@@ -1,15 +1,6 @@
 use Prim.Native.Nat.{ℕ, ◌-◌, ◌≤◌, ◌<◌}
-use mathlib.Core.Path.{◌≡◌, sym, subst}
-use mathlib.Core.Bool.{true≢false, false≢true}
-use native.Mathlib.Omega.{arith}
-use borrow.Author.Rules.{rules}
-use borrow.Author.Count.{below_more}
-use borrow.Author.Tests.{not-true, not-false}
 use Rattle.splitting.specs.Places.{front}
 use Rattle.classes.specs.Values.{row_in, Reads}
-use Rattle.classes.proofs.Reading.{row_is}
-use mathlib.Core.Bool.{not}
-use mathlib.Core.Path.{ap}
 use Rattle.classes.proofs.all_readable.Given as goal
 
 abbrev pub invariant-loop-i : goal.invariant-loop-i

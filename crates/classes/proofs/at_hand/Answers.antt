@@ -2,7 +2,6 @@ use mathlib.Core.Bool.{true≢false}
 use native.Mathlib.Nat.{mul-le-mul}
 use Rattle.classes.proofs.Reading.{all-below}
 use native.Mathlib.Omega.{arith}
-use borrow.Author.Rules.{rules}
 use Rattle.classes.proofs.at_hand.Goals as goal
 
 pub overflow_mul-n : goal.overflow_mul-n

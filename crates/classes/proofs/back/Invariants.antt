@@ -1,8 +1,5 @@
-use Prim.Native.Nat.{ℕ, ◌-◌, ◌≤◌, ◌*◌, ◌+◌}
-use mathlib.Core.Path.{◌≡◌, subst}
-use native.Mathlib.Omega.{arith}
+use Prim.Native.Nat.{◌-◌, ◌≤◌, ◌*◌}
 use Rattle.splitting.specs.Places.{Filled, key_at}
-use Rattle.splitting.proofs.Frames.{filled_none, filled_next}
 use Rattle.classes.proofs.back.Given as goal
 
 abbrev pub invariant-loop-i : goal.invariant-loop-i

@@ -1,5 +1,3 @@
-use Prim.Native.Nat.{ℕ, ◌+◌, ◌-◌, ◌≤◌, ◌<◌}
-use lib.ListN.{get_or}
 use borrow.Author.Tests.{ltb-true}
 use borrow.Author.Count.{below_more}
 use native.Mathlib.Omega.{arith}

@@ -1,8 +1,5 @@
 use Prim.Native.Nat.{ℕ, ◌+◌, ◌-◌, ◌≤◌, ◌<◌}
 use lib.ListN.{get_or}
-use borrow.Author.Tests.{ltb-true}
-use borrow.Author.Count.{below_more}
-use native.Mathlib.Omega.{arith}
 use Rattle.classes.proofs.below.Given as goal
 
 abbrev pub invariant-loop-i : goal.invariant-loop-i

@@ -1,10 +1,6 @@
-use mathlib.Core.Path.{◌∙◌, ◌≡◌, subst}
-use Prim.Native.Nat.{ℕ, ◌-◌, ◌≤◌, ◌*◌, ◌+◌}
-use native.Mathlib.Omega.{arith}
+use Prim.Native.Nat.{◌-◌, ◌≤◌}
 use Rattle.splitting.specs.Places.{front, Filled}
-use Rattle.splitting.proofs.Frames.{filled_none, filled_next}
 use Rattle.classes.specs.Values.{row_in, place_in}
-use Rattle.classes.proofs.Reading.{row_kept, event-ready, event_read}
 use Rattle.classes.proofs.by_event.Given as goal
 
 abbrev pub invariant-loop-i : goal.invariant-loop-i

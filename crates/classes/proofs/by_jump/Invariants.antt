@@ -1,10 +1,6 @@
-use Rattle.classes.proofs.Reading.{jump_read}
-use Prim.Native.Nat.{ℕ, ◌-◌, ◌≤◌, ◌*◌, ◌+◌}
-use mathlib.Core.Path.{◌≡◌, subst}
-use native.Mathlib.Omega.{arith}
+use Prim.Native.Nat.{◌-◌, ◌≤◌, ◌*◌, ◌+◌}
 use lib.ListN.{get_or}
 use Rattle.splitting.specs.Places.{Filled, jump_at}
-use Rattle.splitting.proofs.Frames.{filled_none, filled_next}
 use Rattle.classes.proofs.by_jump.Given as goal
 
 abbrev pub invariant-loop-i : goal.invariant-loop-i

@@ -1,6 +1,6 @@
 use mathlib.Core.Path.{ap, ◌∙◌, ◌≡◌, subst}
 use Rattle.classes.proofs.Reading.{row_kept}
-use Prim.Native.Nat.{ℕ, ◌-◌, ◌≤◌, ◌*◌, ◌+◌}
+use Prim.Native.Nat.{ℕ, ◌*◌, ◌+◌}
 use native.Mathlib.Omega.{arith}
 use lib.ListN.{get_or}
 use Rattle.tables.specs.Table.{mark_of}

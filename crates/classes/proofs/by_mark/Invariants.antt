@@ -1,11 +1,7 @@
-use mathlib.Core.Path.{ap, ◌∙◌, ◌≡◌, subst}
-use Rattle.classes.proofs.Reading.{row_kept}
-use Prim.Native.Nat.{ℕ, ◌-◌, ◌≤◌, ◌*◌, ◌+◌}
-use native.Mathlib.Omega.{arith}
+use Prim.Native.Nat.{◌-◌, ◌≤◌, ◌*◌, ◌+◌}
 use lib.ListN.{get_or}
 use Rattle.tables.specs.Table.{mark_of}
 use Rattle.splitting.specs.Places.{Filled, front}
-use Rattle.splitting.proofs.Frames.{filled_none, filled_next}
 use Rattle.classes.proofs.by_mark.Given as goal
 
 abbrev pub invariant-loop-i : goal.invariant-loop-i

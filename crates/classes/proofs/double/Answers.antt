@@ -1,6 +1,5 @@
 use mathlib.Core.Logic.{inl, inr}
 use native.Mathlib.Omega.{arith}
-use borrow.Author.Rules.{rules}
 use Rattle.splitting.proofs.Frames.{span_at}
 use Rattle.classes.specs.Steps.{Doubled}
 use Rattle.classes.proofs.Moves.{room_after, led-ready, inside_put, ready_put, doubled}

@@ -1,12 +1,10 @@
-use Prim.Native.Nat.{ℕ, ◌-◌, ◌≤◌, ◌<◌}
+use Prim.Native.Nat.{ℕ}
 use mathlib.Core.Path.{subst}
 use borrow.Author.Count.{below_more}
 use Rattle.splitting.specs.Places.{nxt_at}
-use Rattle.classes.specs.Values.{Values, values_by, Alike}
-use Rattle.classes.specs.Steps.{Round}
+use Rattle.classes.specs.Values.{values_by, Alike}
 use Rattle.classes.proofs.Faults.{first_unlike, round_one, round_all}
 use native.Mathlib.Omega.{arith}
-use Rattle.classes.proofs.fault.Invariants.{Fine}
 use Rattle.classes.proofs.fault.Goals as goal
 
 pub loop-k-init : goal.loop-k-init

@@ -1,14 +1,8 @@
-use Prim.Native.Nat.{ℕ, ◌-◌, ◌≤◌, ◌<◌}
-use mathlib.Core.Path.{◌≡◌, sym, ◌∙◌}
-use mathlib.Core.Bool.{true, true≢false}
-use mathlib.Core.Logic.{⊎_elim}
+use mathlib.Core.Path.{sym, ◌∙◌}
+use mathlib.Core.Bool.{true}
 use native.Mathlib.Omega.{arith}
-use borrow.Author.Rules.{rules}
 use borrow.Author.Count.{below_more}
 use borrow.Author.Tests.{eqb-true, eqb-false, not-true, not-false}
-use Rattle.tables.specs.Table.{mark_of}
-use Rattle.splitting.specs.Places.{nxt_at}
-use Rattle.classes.specs.Values.{values_by, value}
 use Rattle.classes.proofs.Faults.{first_marks, first-event, first-none}
 use mathlib.Core.Bool.{not}
 use mathlib.Core.Path.{ap}

@@ -1,17 +1,9 @@
 use Prim.Native.Nat.{ℕ, ◌-◌, ◌≤◌, ◌<◌}
-use mathlib.Core.Path.{◌≡◌, sym, ◌∙◌}
-use mathlib.Core.Bool.{true, true≢false}
-use mathlib.Core.Logic.{⊎_elim}
-use native.Mathlib.Omega.{arith}
-use borrow.Author.Rules.{rules}
-use borrow.Author.Count.{below_more}
-use borrow.Author.Tests.{eqb-true, eqb-false, not-true, not-false}
+use mathlib.Core.Path.{◌≡◌}
+use mathlib.Core.Bool.{true}
 use Rattle.tables.specs.Table.{mark_of}
 use Rattle.splitting.specs.Places.{nxt_at}
 use Rattle.classes.specs.Values.{values_by, value}
-use Rattle.classes.proofs.Faults.{first_marks, first-event, first-none}
-use mathlib.Core.Bool.{not}
-use mathlib.Core.Path.{ap}
 use Rattle.classes.proofs.first_event.Given as goal
 
 abbrev pub invariant-loop-a : goal.invariant-loop-a

@@ -1,10 +1,9 @@
-use Prim.Native.Nat.{◌+◌, ◌≤◌, min}
 use mathlib.Core.Logic.{inl}
-use Rattle.splitting.specs.Places.{nxt_at, followers, Split}
+use Rattle.splitting.specs.Places.{nxt_at, Split}
 use Rattle.splitting.proofs.Frames.{frame_none, span_at}
 use Rattle.splitting.proofs.Counts.{followers_few}
 use Rattle.classes.specs.Steps.{none}
-use Rattle.classes.proofs.Moves.{room_after, led-ready, led-keyed, led-jumps, Doubling, doubling_next}
+use Rattle.classes.proofs.Moves.{room_after, led-ready, led-keyed, led-jumps, doubling_next}
 use native.Mathlib.Omega.{arith}
 use Rattle.classes.proofs.leap.Goals as goal
 

@@ -1,11 +1,6 @@
 use Prim.Native.Nat.{◌+◌, ◌≤◌, min}
-use mathlib.Core.Logic.{inl}
-use Rattle.splitting.specs.Places.{nxt_at, followers, Split}
-use Rattle.splitting.proofs.Frames.{frame_none, span_at}
-use Rattle.splitting.proofs.Counts.{followers_few}
-use Rattle.classes.specs.Steps.{none}
-use Rattle.classes.proofs.Moves.{room_after, led-ready, led-keyed, led-jumps, Doubling, doubling_next}
-use native.Mathlib.Omega.{arith}
+use Rattle.splitting.specs.Places.{nxt_at, followers}
+use Rattle.classes.proofs.Moves.{Doubling}
 use Rattle.classes.proofs.leap.Given as goal
 
 abbrev pub invariant-loop-before : goal.invariant-loop-before

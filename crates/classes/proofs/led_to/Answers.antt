@@ -4,7 +4,6 @@ use Rattle.splitting.specs.Places.{front, nxt_at}
 use Rattle.classes.specs.Values.{row_in, lead_to}
 use Rattle.classes.proofs.Reading.{row_is, event-ready, event_read}
 use native.Mathlib.Omega.{arith}
-use borrow.Author.Rules.{rules}
 use Rattle.classes.proofs.led_to.Goals as goal
 
 pub place_of-requires : goal.place_of-requires

@@ -1,10 +1,6 @@
 use Rattle.splitting.specs.Places.{nxt_at, followers}
-use Rattle.splitting.proofs.Counts.{followers_few}
-use Rattle.classes.specs.Values.{Values, values_by, Given, Alike}
-use Rattle.classes.specs.Steps.{Begun, Refined, Fault}
-use Rattle.classes.proofs.Reading.{onward, backward}
-use Rattle.classes.proofs.Moves.{Mending, mending_end, Mended, mended, kept_none, kept_frame, kept_then, room_sized, begun-after}
-use native.Mathlib.Omega.{arith}
+use Rattle.classes.specs.Values.{values_by}
+use Rattle.classes.proofs.Moves.{Mending}
 use Rattle.classes.proofs.mend.Given as goal
 
 abbrev pub invariant-loop-i : goal.invariant-loop-i

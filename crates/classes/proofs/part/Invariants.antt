@@ -1,12 +1,7 @@
-use mathlib.Core.Path.{◌≡◌, subst}
-use Prim.Native.Nat.{ℕ, ◌-◌, ◌≤◌}
-use mathlib.Core.List.{List}
+use Prim.Native.Nat.{◌-◌, ◌≤◌}
 use Rattle.splitting.specs.Places.{front}
 use Rattle.classes.specs.Values.{lead_to}
-use Rattle.classes.specs.Steps.{Goes, Part}
-use Rattle.classes.proofs.Reading.{sizes_after, reads_after}
-use Rattle.classes.proofs.Parts.{Parting, parting_start, parting-first, parting-next, parting-end}
-use native.Mathlib.Omega.{arith}
+use Rattle.classes.proofs.Parts.{Parting}
 use Rattle.classes.proofs.part.Given as goal
 
 abbrev pub invariant-loop-i : goal.invariant-loop-i

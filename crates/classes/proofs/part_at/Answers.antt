@@ -6,7 +6,6 @@ use Rattle.classes.specs.Steps.{Goes, Parts}
 use Rattle.classes.proofs.Parts.{parts_like, parts_else}
 use Rattle.classes.proofs.Singles.{single_out}
 use native.Mathlib.Omega.{arith}
-use borrow.Author.Rules.{rules}
 use Rattle.classes.proofs.part_at.Goals as goal
 
 pub sole-requires : goal.sole-requires

@@ -6,7 +6,6 @@ use Rattle.splitting.specs.Places.{front}
 use Rattle.classes.specs.Values.{lead_to}
 use Rattle.classes.specs.Steps.{Goes, stays, leads, joins}
 use native.Mathlib.Omega.{arith}
-use borrow.Author.Rules.{rules}
 use mathlib.Core.Bool.{not}
 use Rattle.classes.proofs.part_one.Goals as goal
 

@@ -3,7 +3,6 @@ use mathlib.Core.Path.{ap, sym, ◌∙◌}
 use native.Mathlib.Omega.{arith}
 use lib.ListN.{get_or}
 use Rattle.classes.proofs.Reading.{front_read}
-use borrow.Author.Rules.{rules}
 use Rattle.classes.proofs.place_of.Goals as goal
 
 pub returns : goal.returns

@@ -1,11 +1,8 @@
-use Prim.Native.Nat.{ℕ, ◌-◌, ◌+◌, ◌*◌, ◌≤◌, ◌<◌}
+use Prim.Native.Nat.{◌+◌, ◌*◌, ◌<◌}
 use mathlib.Core.Bool.{true≢false, false≢true}
 use native.Mathlib.Omega.{arith}
-use borrow.Author.Rules.{rules}
 use borrow.Author.Count.{below_more}
 use lib.ListN.{length}
-use Rattle.splitting.specs.Places.{front}
-use Rattle.classes.specs.Values.{target_in, place_in}
 use Rattle.classes.proofs.Reading.{cell_in}
 use Rattle.classes.proofs.readable.Goals as goal
 

@@ -1,12 +1,6 @@
-use Prim.Native.Nat.{ℕ, ◌-◌, ◌+◌, ◌*◌, ◌≤◌, ◌<◌}
-use mathlib.Core.Bool.{true≢false, false≢true}
-use native.Mathlib.Omega.{arith}
-use borrow.Author.Rules.{rules}
-use borrow.Author.Count.{below_more}
-use lib.ListN.{length}
+use Prim.Native.Nat.{ℕ, ◌-◌, ◌≤◌, ◌<◌}
 use Rattle.splitting.specs.Places.{front}
 use Rattle.classes.specs.Values.{target_in, place_in}
-use Rattle.classes.proofs.Reading.{cell_in}
 use Rattle.classes.proofs.readable.Given as goal
 
 abbrev pub invariant-loop-a : goal.invariant-loop-a

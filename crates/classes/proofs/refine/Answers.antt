@@ -5,7 +5,6 @@ use Rattle.classes.specs.Values.{values_by, outer_by}
 use Rattle.classes.specs.Steps.{Refined}
 use Rattle.classes.proofs.Moves.{filled-ready, inner_ready, inner_inside, other_key, refined-mark, refined-outer, refined-one, refined-inner}
 use native.Mathlib.Omega.{arith}
-use borrow.Author.Rules.{rules}
 use Rattle.classes.proofs.refine.Goals as goal
 
 pub fault_at-e-requires : goal.fault_at-e-requires

@@ -1,8 +1,6 @@
 use Prim.Native.Nat.{◌<◌}
 use mathlib.Core.Path.{ap, ap₂, sym, ◌∙◌}
-use mathlib.Core.List.{[]}
 use native.Mathlib.Omega.{arith}
-use borrow.Author.Rules.{rules}
 use lib.Dec.{eqb}
 use Rattle.splitting.specs.Places.{nxt_at}
 use Rattle.classes.specs.Values.{Values, values_by}

@@ -9,7 +9,6 @@ use Rattle.classes.specs.Values.{row_in, target_in, lead_to}
 use Rattle.classes.proofs.Reading.{front_read, row_is, cell_in}
 use Rattle.classes.proofs.Singles.{sole_place}
 use native.Mathlib.Omega.{arith}
-use borrow.Author.Rules.{rules}
 use mathlib.Core.Bool.{not}
 use Rattle.classes.proofs.sole.Goals as goal
 

@@ -1,5 +1,4 @@
 use Prim.Native.Nat.{◌-◌, ◌≤◌, ◌<◌, ◌*◌}
-use native.Mathlib.Omega.{arith}
 use Rattle.classes.proofs.table_size.Given as goal
 
 abbrev pub invariant-loop-size : goal.invariant-loop-size

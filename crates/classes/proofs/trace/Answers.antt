@@ -1,8 +1,7 @@
 use mathlib.Core.Path.{◌≡◌, ◌∙◌}
-use Prim.Native.Nat.{◌-◌, ◌≤◌, ◌<◌}
+use Prim.Native.Nat.{◌<◌}
 use Rattle.splitting.specs.Places.{front}
 use Rattle.classes.specs.Values.{row_in}
-use Rattle.classes.specs.Steps.{Spared}
 use Rattle.classes.proofs.Reading.{row_is, event-ready, event_read}
 use Rattle.classes.proofs.Hints.{spared_none, spared_then, spared_set}
 use native.Mathlib.Omega.{arith}

@@ -1,11 +1,5 @@
-use mathlib.Core.Path.{◌≡◌, ◌∙◌}
-use Prim.Native.Nat.{◌-◌, ◌≤◌, ◌<◌}
-use Rattle.splitting.specs.Places.{front}
-use Rattle.classes.specs.Values.{row_in}
+use Prim.Native.Nat.{◌-◌, ◌≤◌}
 use Rattle.classes.specs.Steps.{Spared}
-use Rattle.classes.proofs.Reading.{row_is, event-ready, event_read}
-use Rattle.classes.proofs.Hints.{spared_none, spared_then, spared_set}
-use native.Mathlib.Omega.{arith}
 use Rattle.classes.proofs.trace.Given as goal
 
 abbrev pub invariant-loop-a : goal.invariant-loop-a

@@ -1,6 +1,4 @@
-use Prim.Native.Nat.{◌≤◌}
 use borrow.Author.Tests.{not-false}
-use Rattle.classes.specs.Steps.{Spared}
 use Rattle.classes.proofs.Reading.{sizes_after, reads_after}
 use Rattle.classes.proofs.Hints.{spared_none, spared_then, traced_none, traced_top}
 use native.Mathlib.Omega.{arith}

@@ -1,6 +1,5 @@
 use mathlib.Core.Path.{refl}
 use native.Mathlib.Omega.{arith}
-use borrow.Author.Rules.{rules}
 use Rattle.rules.specs.Rules.{table_of}
 use Rattle.depths.proofs.Found.{ready}
 use Rattle.depths.proofs.Plumbed.{plumbed-refused, plumbed_done, plumbed_lent}

@@ -1,7 +1,6 @@
 use mathlib.Core.Path.{refl}
 use mathlib.Core.Bool.{true≢false, false≢true}
 use native.Mathlib.Omega.{arith}
-use borrow.Author.Rules.{rules}
 use Rattle.depths.proofs.raise.Goals as goal
 
 pub returns-then-cells-at : goal.returns-then-cells-at

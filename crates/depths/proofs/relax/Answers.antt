@@ -1,5 +1,4 @@
 use native.Mathlib.Omega.{arith}
-use borrow.Author.Rules.{rules}
 use Rattle.rules.specs.Rules.{table_of}
 use Rattle.depths.proofs.Moves.{risen_none, risen_raised, relax-none, relax-told}
 use Rattle.depths.proofs.relax.Goals as goal

@@ -1,4 +1,3 @@
-use borrow.Author.Rules.{rules}
 use Rattle.rules.specs.Rules.{table_of}
 use Rattle.depths.proofs.Found.{found_by_lem}
 use Rattle.depths.proofs.search.Goals as goal

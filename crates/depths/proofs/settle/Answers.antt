@@ -1,8 +1,5 @@
-use mathlib.Core.Path.{◌≡◌, refl, ◌∙◌}
-use lib.ListN.{length}
-use borrow.Author.Rules.{rules}
-use Rattle.depths.specs.Steps.{Workspace}
-use Rattle.depths.proofs.Moves.{ahead, same_space, risen_less, Settling, settling_none, settling_more, settled}
+use mathlib.Core.Path.{refl, ◌∙◌}
+use Rattle.depths.proofs.Moves.{same_space, risen_less, settling_none, settling_more, settled}
 use Rattle.depths.proofs.settle.Goals as goal
 
 pub loop-again-init : goal.loop-again-init

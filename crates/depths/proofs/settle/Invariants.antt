@@ -1,8 +1,7 @@
-use mathlib.Core.Path.{◌≡◌, refl, ◌∙◌}
+use mathlib.Core.Path.{◌≡◌}
 use lib.ListN.{length}
-use borrow.Author.Rules.{rules}
 use Rattle.depths.specs.Steps.{Workspace}
-use Rattle.depths.proofs.Moves.{ahead, same_space, risen_less, Settling, settling_none, settling_more, settled}
+use Rattle.depths.proofs.Moves.{ahead, Settling}
 use Rattle.depths.proofs.settle.Given as goal
 
 abbrev pub invariant-loop-again : goal.invariant-loop-again

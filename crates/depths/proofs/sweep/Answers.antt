@@ -1,8 +1,6 @@
-use Prim.Native.Nat.{◌-◌, ◌≤◌}
 use native.Mathlib.Omega.{arith}
-use borrow.Author.Rules.{rules}
-use Rattle.depths.specs.Steps.{Workspace, Risen, QuietRow}
-use Rattle.depths.proofs.Moves.{same_space, risen_none, risen_hit, risen_miss, Steps, steps_none, steps-hit, steps-miss, steps_all}
+use Rattle.depths.specs.Steps.{QuietRow}
+use Rattle.depths.proofs.Moves.{same_space, risen_none, risen_hit, risen_miss, steps_none, steps-hit, steps-miss, steps_all}
 use Rattle.depths.proofs.sweep.Goals as goal
 
 pub loop-row-init : goal.loop-row-init

@@ -4,7 +4,6 @@ use Rattle.text.proofs.Buffer.{puts_as}
 use Rattle.image_text.specs.ImageText.{masked_text}
 use Rattle.image_text.proofs.Taken.{refused-text, cells_part, cells_length, marks_part, marks_length, taken-valid, taken-text}
 use Rattle.desk.specs.Printed.{reduction_text}
-use borrow.Author.Rules.{rules}
 use Rattle.desk.proofs.write_image_text.Goals as goal
 
 pub slice_bounds-cells-end : goal.slice_bounds-cells-end

@@ -5,7 +5,6 @@ use lib.ListN.{length-replicate}
 use Rattle.rules.specs.Rules.{table_of, offset_of}
 use Rattle.text.proofs.Buffer.{puts_as}
 use Rattle.desk.proofs.Sized.{few-left, refusal_is, text_is}
-use borrow.Author.Rules.{rules}
 use Rattle.desk.proofs.write_reduction.Goals as goal
 
 pub overflow_cast-left : goal.overflow_cast-left

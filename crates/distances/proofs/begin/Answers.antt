@@ -1,5 +1,4 @@
 use Rattle.distances.proofs.Rising.{clear_begun, clear_settled}
-use borrow.Author.Rules.{rules}
 use Rattle.distances.proofs.begin.Goals as goal
 
 pub settle-requires : goal.settle-requires

@@ -1,6 +1,5 @@
 use native.Mathlib.Omega.{arith}
 use Rattle.distances.proofs.Measured.{refused, shape, given, searched}
-use borrow.Author.Rules.{rules}
 use mathlib.Core.Bool.{not}
 use mathlib.Core.Path.{ap}
 use Rattle.distances.proofs.distances.Goals as goal

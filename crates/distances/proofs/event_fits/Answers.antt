@@ -1,5 +1,4 @@
 use Rattle.pairs.proofs.RowStarts.{pair_right}
-use borrow.Author.Rules.{rules}
 use Rattle.distances.proofs.event_fits.Goals as goal
 
 pub returns : goal.returns

@@ -1,9 +1,8 @@
-use Prim.Native.Nat.{ℕ, ◌+◌, ◌-◌, ◌≤◌}
-use mathlib.Core.Path.{◌≡◌, sym, subst}
-use mathlib.Core.Logic.{⊎_elim}
+use Prim.Native.Nat.{ℕ}
+use mathlib.Core.Path.{◌≡◌, subst}
 use native.Mathlib.Omega.{arith}
 use Rattle.distances.specs.Search.{Lowered}
-use Rattle.distances.proofs.Lowering.{lowered_none, lowered_hit, lowered_miss}
+use Rattle.distances.proofs.Lowering.{lowered_none}
 use Rattle.distances.proofs.lower.Goals as goal
 
 pub loop-k-init : goal.loop-k-init

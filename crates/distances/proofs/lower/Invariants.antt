@@ -1,9 +1,5 @@
-use Prim.Native.Nat.{ℕ, ◌+◌, ◌-◌, ◌≤◌}
-use mathlib.Core.Path.{◌≡◌, sym, subst}
-use mathlib.Core.Logic.{⊎_elim}
-use native.Mathlib.Omega.{arith}
+use Prim.Native.Nat.{◌-◌, ◌≤◌}
 use Rattle.distances.specs.Search.{Lowered}
-use Rattle.distances.proofs.Lowering.{lowered_none, lowered_hit, lowered_miss}
 use Rattle.distances.proofs.lower.Given as goal
 
 abbrev pub invariant-loop-k : goal.invariant-loop-k

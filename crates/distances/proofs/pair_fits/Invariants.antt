@@ -1,17 +1,8 @@
 use Prim.Native.Nat.{ℕ, ◌+◌, ◌-◌, ◌*◌, ◌≤◌, ◌<◌}
-use mathlib.Core.Path.{◌≡◌, sym, ap, ◌∙◌}
-use mathlib.Core.List.{List}
-use mathlib.Core.Bool.{true≢false, false≢true}
-use mathlib.Core.Logic.{⊎_elim}
-use native.Mathlib.Nat.{not-le_of_lt}
-use native.Mathlib.Omega.{arith}
-use borrow.Author.Rules.{rules}
-use borrow.Author.Count.{below_more}
-use borrow.Author.Tests.{leb-true, leb-false, not-true, not-false}
+use mathlib.Core.Path.{◌≡◌}
 use lib.ListN.{get_or}
 use Rattle.tables.specs.Table.{mark_of, weight_by}
 use Rattle.pairs.specs.Pairs.{pair_at}
-use mathlib.Core.Bool.{not}
 use Rattle.distances.proofs.pair_fits.Given as goal
 
 abbrev pub invariant-loop-event : goal.invariant-loop-event

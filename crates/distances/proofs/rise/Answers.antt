@@ -1,5 +1,4 @@
 use Rattle.distances.proofs.Rising.{rise_begun, risen}
-use borrow.Author.Rules.{rules}
 use Rattle.distances.proofs.rise.Goals as goal
 
 pub settle-requires : goal.settle-requires

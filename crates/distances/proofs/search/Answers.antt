@@ -1,13 +1,9 @@
-use Prim.Native.Nat.{◌-◌}
 use mathlib.Core.Path.{◌∙◌}
-use native.Mathlib.Omega.{arith}
 use borrow.Author.Tests.{not-true}
 use Rattle.rules.specs.Rules.{table_of}
 use Rattle.tables.proofs.Counted.{mask_light}
 use Rattle.distances.specs.Distances.{distance_cells}
-use Rattle.scratch.specs.Scratch.{machine_by}
-use Rattle.distances.specs.Search.{events_by}
-use Rattle.distances.proofs.Rising.{Rising, rising_start, rising-ready, rising-next, rising-early, rising-full}
+use Rattle.distances.proofs.Rising.{rising_start, rising-ready, rising-next, rising-early, rising-full}
 use mathlib.Core.Bool.{not}
 use mathlib.Core.Path.{ap}
 use Rattle.distances.proofs.search.Goals as goal

@@ -1,8 +1,4 @@
-use Prim.Native.Nat.{◌+◌}
-use mathlib.Core.Bool.{cond}
-use Rattle.scratch.specs.Scratch.{machine_by}
-use Rattle.distances.specs.Search.{events_by, occurrences}
-use Rattle.distances.proofs.Moves.{moved_less, Settling, settling_start, settling_next, settling_end}
+use Rattle.distances.proofs.Moves.{moved_less, settling_start, settling_next, settling_end}
 use Rattle.distances.proofs.settle.Goals as goal
 
 pub loop-again-init : goal.loop-again-init

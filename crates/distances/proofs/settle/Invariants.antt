@@ -2,7 +2,7 @@ use Prim.Native.Nat.{◌+◌}
 use mathlib.Core.Bool.{cond}
 use Rattle.scratch.specs.Scratch.{machine_by}
 use Rattle.distances.specs.Search.{events_by, occurrences}
-use Rattle.distances.proofs.Moves.{moved_less, Settling, settling_start, settling_next, settling_end}
+use Rattle.distances.proofs.Moves.{Settling}
 use Rattle.distances.proofs.settle.Given as goal
 
 abbrev pub invariant-loop-again : goal.invariant-loop-again

@@ -1,9 +1,6 @@
 use Prim.Native.Nat.{◌-◌, ◌≤◌}
-use native.Mathlib.Omega.{arith}
-use borrow.Author.Rules.{rules}
 use Rattle.scratch.specs.Scratch.{machine_by}
 use Rattle.distances.specs.Search.{events_by, Turned, QuietRows}
-use Rattle.distances.proofs.Moves.{turned_none, turned-map, begun-moved, rows-hit, rows-miss}
 use Rattle.distances.proofs.sweep.Given as goal
 
 abbrev pub invariant-loop-q : goal.invariant-loop-q

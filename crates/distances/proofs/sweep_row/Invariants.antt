@@ -1,8 +1,6 @@
 use Prim.Native.Nat.{◌-◌, ◌≤◌}
-use native.Mathlib.Omega.{arith}
 use Rattle.scratch.specs.Scratch.{machine_by}
 use Rattle.distances.specs.Search.{events_by, Turned, QuietRow}
-use Rattle.distances.proofs.Moves.{turned_none, turned-map, begun-moved, row-hit, row-miss}
 use Rattle.distances.proofs.sweep_row.Given as goal
 
 abbrev pub invariant-loop-p : goal.invariant-loop-p

@@ -5,7 +5,6 @@ use Rattle.pairs.specs.Pairs.{triangle}
 use Rattle.pairs.proofs.Triangle.{triangle_bound}
 use Rattle.pairs.proofs.RowStarts.{start_right}
 use Rattle.distances.proofs.Visits.{visit_other, visit_fits, visit_raised}
-use borrow.Author.Rules.{rules}
 use Rattle.distances.proofs.visit.Goals as goal
 
 pub overflow_add-at : goal.overflow_add-at

@@ -1,5 +1,4 @@
 use native.Mathlib.Omega.{arith}
-use borrow.Author.Rules.{rules}
 use Rattle.either_way.proofs.fold_first.Goals as goal
 
 pub fold_levels-requires : goal.fold_levels-requires

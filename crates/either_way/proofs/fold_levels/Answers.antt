@@ -6,7 +6,6 @@ use Rattle.pairs.proofs.Triangle.{needed-value}
 use Rattle.pairs.proofs.Figures.{many_rows, short_room}
 use Rattle.either_way.proofs.Choice.{not-folded, levels-done}
 use native.Mathlib.Omega.{arith}
-use borrow.Author.Rules.{rules}
 use Rattle.either_way.proofs.fold_levels.Goals as goal
 
 pub returns-then-rows-gt1024 : goal.returns-then-rows-gt1024

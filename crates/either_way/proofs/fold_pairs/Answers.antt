@@ -5,7 +5,6 @@ use Rattle.pairs.proofs.Works.{workable_shape}
 use Rattle.either_way.proofs.Pairs.{pairs_fit, pairs-folded}
 use Rattle.either_way.proofs.Choice.{pairs-not, pairs_done}
 use native.Mathlib.Omega.{arith}
-use borrow.Author.Rules.{rules}
 use Rattle.either_way.proofs.fold_pairs.Goals as goal
 
 pub overflow_cast-rows : goal.overflow_cast-rows

@@ -4,7 +4,6 @@ use Rattle.ways.specs.Ways.{need_of}
 use Rattle.either_way.specs.Folding.{Folding}
 use Rattle.ways.specs.declared.Way.{Way}
 use Rattle.either_way.proofs.Choice.{few-done}
-use borrow.Author.Rules.{rules}
 use Rattle.either_way.proofs.fold_rows.Goals as goal
 
 pub returns-in-First : goal.returns-in-First

@@ -1,9 +1,9 @@
 use mathlib.Core.List.{List}
-use mathlib.Core.Path.{◌≡◌, refl, sym, ap, ◌∙◌}
-use Prim.Native.Nat.{ℕ, ◌+◌, ◌-◌, ◌≤◌}
-use lib.ListN.{length, get_or, take, length-set}
+use mathlib.Core.Path.{refl, sym, ap, ◌∙◌}
+use Prim.Native.Nat.{ℕ, ◌+◌}
+use lib.ListN.{get_or, take, length-set}
 use lib.Seq.{length-take-le}
-use Rattle.tables.specs.Lists.{tabulate, over}
+use Rattle.tables.specs.Lists.{tabulate}
 use Rattle.tables.proofs.Lists.{tabulate-length}
 use Rattle.tables.proofs.Over.{over_none, over-all, over-behind, tabulate-next}
 use native.Mathlib.Omega.{arith}

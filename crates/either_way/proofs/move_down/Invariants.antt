@@ -1,12 +1,7 @@
-use mathlib.Core.List.{List}
-use mathlib.Core.Path.{◌≡◌, refl, sym, ap, ◌∙◌}
-use Prim.Native.Nat.{ℕ, ◌+◌, ◌-◌, ◌≤◌}
-use lib.ListN.{length, get_or, take, length-set}
-use lib.Seq.{length-take-le}
+use mathlib.Core.Path.{◌≡◌}
+use Prim.Native.Nat.{◌+◌, ◌-◌, ◌≤◌}
+use lib.ListN.{length, get_or, take}
 use Rattle.tables.specs.Lists.{tabulate, over}
-use Rattle.tables.proofs.Lists.{tabulate-length}
-use Rattle.tables.proofs.Over.{over_none, over-all, over-behind, tabulate-next}
-use native.Mathlib.Omega.{arith}
 use Rattle.either_way.proofs.move_down.Given as goal
 
 abbrev pub invariant-loop-i : goal.invariant-loop-i

@@ -1,7 +1,5 @@
 use mathlib.Core.Path.{ap, ◌∙◌}
 use Rattle.answers.specs.Answers.{of_ordered}
-use native.Mathlib.Omega.{arith}
-use borrow.Author.Rules.{rules}
 use Rattle.exports.proofs.gelfost_compare.Goals as goal
 
 pub returns : goal.returns

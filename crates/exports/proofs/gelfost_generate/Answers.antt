@@ -1,6 +1,5 @@
 use mathlib.Core.Path.{ap, ◌∙◌}
 use Rattle.answers.specs.Answers.{of_verdict}
-use borrow.Author.Rules.{rules}
 use Rattle.exports.proofs.Kept.{load_kept}
 use Rattle.exports.proofs.gelfost_generate.Goals as goal
 

@@ -1,6 +1,5 @@
 use mathlib.Core.Path.{ap, ◌∙◌}
 use Rattle.answers.specs.Answers.{of_told}
-use borrow.Author.Rules.{rules}
 use Rattle.exports.proofs.Kept.{run_kept}
 use Rattle.exports.proofs.gelfost_last_run.Goals as goal
 

@@ -1,6 +1,5 @@
 use mathlib.Core.Path.{ap, ◌∙◌}
 use Rattle.answers.specs.Answers.{of_answer}
-use borrow.Author.Rules.{rules}
 use Rattle.exports.proofs.Kept.{reduce_kept}
 use Rattle.exports.proofs.gelfost_reduce_few.Goals as goal
 

@@ -1,6 +1,5 @@
 use mathlib.Core.Path.{ap, ◌∙◌}
 use Rattle.answers.specs.Answers.{of_written}
-use borrow.Author.Rules.{rules}
 use Rattle.exports.proofs.gelfost_write_pack.Goals as goal
 
 pub returns : goal.returns

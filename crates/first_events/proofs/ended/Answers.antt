@@ -6,7 +6,6 @@ use Rattle.pairs.specs.Pairs.{pair_at}
 use Rattle.scratch.specs.Scratch.{machine_by}
 use Rattle.distances.specs.Search.{events_by}
 use Rattle.first_events.proofs.Turns.{ended_other, ended_alike, ended_now}
-use borrow.Author.Rules.{rules}
 use Rattle.first_events.proofs.ended.Goals as goal
 
 -- the mark of a row, read at its number

@@ -1,6 +1,5 @@
 use native.Mathlib.Omega.{arith}
 use Rattle.first_events.proofs.Whole.{refused, shape, given, distances-found, searched}
-use borrow.Author.Rules.{rules}
 use mathlib.Core.Bool.{not}
 use mathlib.Core.Path.{ap}
 use Rattle.first_events.proofs.find_measures.Goals as goal

@@ -1,10 +1,5 @@
-use Prim.Native.Nat.{ℕ, ◌-◌, ◌≤◌, ◌<◌}
 use native.Mathlib.Omega.{arith}
 use borrow.Author.Count.{below_more}
-use Rattle.pairs.specs.Pairs.{pair_at}
-use Rattle.scratch.specs.Scratch.{machine_by}
-use Rattle.distances.specs.Search.{events_by}
-use Rattle.first_events.specs.Passes.{Ready}
 use Rattle.first_events.proofs.first_ready.Goals as goal
 
 pub loop-event-init : goal.loop-event-init

@@ -1,5 +1,4 @@
 use Rattle.first_events.proofs.Turns.{known_not, known_end, known_event}
-use borrow.Author.Rules.{rules}
 use Rattle.first_events.proofs.known.Goals as goal
 
 pub returns-in-Unsettled : goal.returns-in-Unsettled

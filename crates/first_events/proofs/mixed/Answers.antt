@@ -1,6 +1,5 @@
 use native.Mathlib.Omega.{arith}
 use Rattle.measures.specs.Measures.{settled_at}
-use borrow.Author.Rules.{rules}
 use Rattle.first_events.proofs.mixed.Goals as goal
 
 pub returns : goal.returns

@@ -2,7 +2,6 @@ use Rattle.pairs.specs.Pairs.{pair_at}
 use Rattle.scratch.specs.Scratch.{machine_by}
 use Rattle.distances.specs.Search.{events_by}
 use Rattle.first_events.proofs.Turns.{led_right, ready-not, ready-test}
-use borrow.Author.Rules.{rules}
 use Rattle.first_events.proofs.ready.Goals as goal
 
 pub returns-then-known : goal.returns-then-known

@@ -1,7 +1,6 @@
 use Rattle.tables.proofs.Counted.{mask_light}
 use Rattle.rules.specs.Rules.{table_of}
 use Rattle.first_events.proofs.Whole.{round-none, round-some}
-use borrow.Author.Rules.{rules}
 use Rattle.first_events.proofs.round.Goals as goal
 
 pub sweep-requires : goal.sweep-requires

@@ -5,10 +5,7 @@ use borrow.Author.Tests.{not-true, not-false}
 use Rattle.tables.proofs.Counted.{mask_light}
 use Rattle.rules.specs.Rules.{table_of}
 use Rattle.scratch.specs.Scratch.{machine_by}
-use Rattle.distances.specs.Search.{events_by}
-use Rattle.first_events.specs.Rounds.{Framed, Reached}
 use Rattle.first_events.proofs.Whole.{framed_none, framed_then, given_framed, reached-at, rounds_last, rounds-all}
-use borrow.Author.Rules.{rules}
 use mathlib.Core.Bool.{not}
 use mathlib.Core.Path.{ap}
 use Rattle.first_events.proofs.rounds.Goals as goal

@@ -1,16 +1,7 @@
-use Prim.Native.Nat.{suc, ◌+◌, ◌-◌, ◌≤◌}
-use mathlib.Core.Path.{◌≡◌}
-use native.Mathlib.Omega.{arith}
-use borrow.Author.Tests.{not-true, not-false}
-use Rattle.tables.proofs.Counted.{mask_light}
-use Rattle.rules.specs.Rules.{table_of}
+use Prim.Native.Nat.{◌-◌, ◌≤◌}
 use Rattle.scratch.specs.Scratch.{machine_by}
 use Rattle.distances.specs.Search.{events_by}
 use Rattle.first_events.specs.Rounds.{Framed, Reached}
-use Rattle.first_events.proofs.Whole.{framed_none, framed_then, given_framed, reached-at, rounds_last, rounds-all}
-use borrow.Author.Rules.{rules}
-use mathlib.Core.Bool.{not}
-use mathlib.Core.Path.{ap}
 use Rattle.first_events.proofs.rounds.Given as goal
 
 abbrev pub invariant-loop-most : goal.invariant-loop-most

@@ -1,7 +1,6 @@
 use Rattle.tables.proofs.Counted.{mask_light}
 use Rattle.rules.specs.Rules.{table_of}
 use Rattle.first_events.proofs.Whole.{given_framed, ends-reached, ends-then}
-use borrow.Author.Rules.{rules}
 use Rattle.first_events.proofs.search.Goals as goal
 
 pub sweep-requires : goal.sweep-requires

@@ -3,7 +3,6 @@ use Rattle.pairs.specs.Pairs.{pair_at}
 use Rattle.scratch.specs.Scratch.{machine_by}
 use Rattle.distances.specs.Search.{events_by}
 use Rattle.first_events.proofs.Turns.{led_right, settled_low, settled_high, settled-not, settled-now}
-use borrow.Author.Rules.{rules}
 use Rattle.first_events.proofs.settled.Goals as goal
 
 pub returns-then-cell-lt1024 : goal.returns-then-cell-lt1024

@@ -1,11 +1,8 @@
-use Prim.Native.Nat.{◌-◌, ◌≤◌}
 use mathlib.Core.Path.{◌≡◌, refl, ap}
 use native.Mathlib.Omega.{arith}
-use borrow.Author.Rules.{rules}
 use Rattle.pairs.specs.Pairs.{triangle}
 use Rattle.scratch.specs.Scratch.{machine_by}
 use Rattle.distances.specs.Search.{events_by}
-use Rattle.first_events.specs.Passes.{Swept}
 use Rattle.first_events.proofs.Sweeps.{triangle-more, swept_none, swept_to, swept_hit, swept_miss}
 use Rattle.first_events.proofs.sweep.Goals as goal
 

@@ -1,10 +1,8 @@
 use Prim.Native.Nat.{◌+◌, ◌-◌, ◌≤◌}
-use native.Mathlib.Omega.{arith}
 use Rattle.pairs.specs.Pairs.{triangle}
 use Rattle.scratch.specs.Scratch.{machine_by}
 use Rattle.distances.specs.Search.{events_by}
 use Rattle.first_events.specs.Passes.{Swept}
-use Rattle.first_events.proofs.Sweeps.{swept_none, swept_to, swept_one, swept_hit, swept_miss}
 use Rattle.first_events.proofs.sweep_row.Given as goal
 
 abbrev pub invariant-loop-p : goal.invariant-loop-p

@@ -3,7 +3,6 @@ use Rattle.pairs.specs.Pairs.{pair_at}
 use Rattle.scratch.specs.Scratch.{machine_by}
 use Rattle.distances.specs.Search.{events_by}
 use Rattle.first_events.proofs.Turns.{taken_other, taken-some, taken_none}
-use borrow.Author.Rules.{rules}
 use Rattle.first_events.proofs.taken.Goals as goal
 
 pub returns-then-most-cell : goal.returns-then-most-cell

@@ -4,7 +4,6 @@ use Rattle.scratch.specs.Scratch.{machine_by}
 use Rattle.distances.specs.Search.{events_by}
 use Rattle.first_events.specs.declared.Pass.{Pass}
 use Rattle.first_events.specs.Passes.{Turned}
-use borrow.Author.Rules.{rules}
 use Rattle.first_events.proofs.turn.Goals as goal
 
 pub returns-in-Ends : goal.returns-in-Ends

@@ -7,7 +7,6 @@ use Rattle.pairs.proofs.RowStarts.{start_right}
 use Rattle.scratch.specs.Scratch.{machine_by}
 use Rattle.distances.specs.Search.{events_by}
 use Rattle.first_events.proofs.Sweeps.{read_at, visited_same, visited_new}
-use borrow.Author.Rules.{rules}
 use Rattle.first_events.proofs.visit.Goals as goal
 
 pub overflow_add-at : goal.overflow_add-at

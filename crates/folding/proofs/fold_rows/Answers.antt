@@ -2,7 +2,6 @@ use mathlib.Core.Path.{sym}
 use native.Mathlib.Omega.{arith}
 use Rattle.rules.specs.Rules.{table_of, offset_of}
 use Rattle.folding.proofs.FoldedIn.{small, refuses, works, room_after, folds-after}
-use borrow.Author.Rules.{rules}
 use mathlib.Core.Bool.{not}
 use mathlib.Core.Path.{ap}
 use Rattle.folding.proofs.fold_rows.Goals as goal

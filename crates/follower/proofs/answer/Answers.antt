@@ -1,5 +1,4 @@
-use mathlib.Core.List.{[], ◌∷◌}
-use borrow.Author.Rules.{rules}
+use mathlib.Core.List.{◌∷◌}
 use borrow.Author.Tests.{le-leb, lt-leb}
 use Rattle.rules.specs.Rules.{winch, row_rule, shape_checks, table_of}
 use Rattle.rules.proofs.Judged.{judged-append}

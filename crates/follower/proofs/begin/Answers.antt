@@ -2,7 +2,6 @@ use native.Mathlib.Omega.{arith}
 use Rattle.rules.specs.Rules.{winch, table_of}
 use Rattle.follower.specs.Follow.{begun}
 use Rattle.rules.proofs.Shape.{shape_fine}
-use borrow.Author.Rules.{rules}
 use Rattle.follower.proofs.begin.Goals as goal
 
 -- Rules 1 to 4 are kept: the start is one of at most 1,024 rows.

@@ -1,4 +1,3 @@
-use borrow.Author.Rules.{rules}
 use Rattle.follower.proofs.is_settled.Goals as goal
 
 pub returns-in-Number : goal.returns-in-Number

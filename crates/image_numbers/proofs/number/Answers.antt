@@ -3,7 +3,6 @@ use native.Mathlib.Omega.{arith}
 use borrow.Author.Tests.{lt-ltb, le-ltb}
 use lib.ListN.{length}
 use Rattle.image_numbers.specs.Numbers.{number_section}
-use borrow.Author.Rules.{rules}
 use Rattle.image_numbers.proofs.number.Goals as goal
 
 pub returns-then-n-lt2 : goal.returns-then-n-lt2

@@ -1,16 +1,14 @@
 use mathlib.Core.Path.{◌≡◌, refl, sym, ap, ◌∙◌}
-use Prim.Native.Nat.{ℕ, ◌+◌, ◌*◌, ◌-◌, ◌/◌, ◌≤◌}
+use Prim.Native.Nat.{ℕ, ◌+◌, ◌*◌, ◌/◌}
 use native.Mathlib.Nat.{div-le_self}
 use native.Mathlib.Numerals.{add-one}
-use lib.ListN.{length, get_or, take, length-set}
-use Rattle.tables.specs.Lists.{over}
+use lib.ListN.{length, get_or, length-set}
 use Rattle.tables.proofs.Lists.{tabulate-length, tabulate-at}
 use Rattle.tables.proofs.Over.{over_none, over-next, over-all}
 use Rattle.images.specs.Image as Image
 use Rattle.images.specs.Image.{target_at, cells_at}
 use Rattle.images.proofs.Targets.{width_most, width-below}
 use native.Mathlib.Omega.{arith}
-use borrow.Author.Rules.{rules}
 use Rattle.image_reader.proofs.copy_cells.Goals as goal
 
 pub loop-i-init : goal.loop-i-init

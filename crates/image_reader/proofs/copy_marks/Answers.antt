@@ -1,9 +1,8 @@
 use mathlib.Core.Path.{◌≡◌, refl, sym, ◌∙◌}
-use Prim.Native.Nat.{◌+◌, ◌-◌, ◌≤◌}
+use Prim.Native.Nat.{◌+◌}
 use native.Mathlib.Numerals.{add-one}
 use native.Mathlib.Omega.{arith}
 use lib.ListN.{length, get_or, take, drop, length-set}
-use Rattle.tables.specs.Lists.{over}
 use Rattle.tables.proofs.Over.{over_none, over-next, over-all, part_length, part_at}
 use Rattle.image_reader.proofs.copy_marks.Goals as goal
 

@@ -13,7 +13,6 @@ use Rattle.image_sections.proofs.Order.{image-order}
 use Rattle.image_reader.proofs.Accepted.{read_holds}
 use Rattle.image_reader.proofs.Reading.{reads_refused, reads_short, reads-table}
 use native.Mathlib.Omega.{arith}
-use borrow.Author.Rules.{rules}
 use Rattle.image_reader.proofs.read_as.Goals as goal
 
 pub returns-in_default : goal.returns-in_default

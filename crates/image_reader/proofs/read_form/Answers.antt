@@ -6,7 +6,6 @@ use Rattle.image_sections.specs.declared.Read.{Read}
 use Rattle.image_sections.specs.Read.{at_most}
 use Rattle.image_sections.proofs.Order.{no_twelve}
 use Rattle.image_reader.specs.Read.{roomed, read_in_form}
-use borrow.Author.Rules.{rules}
 use Rattle.image_reader.proofs.read_form.Goals as goal
 
 pub returns : goal.returns

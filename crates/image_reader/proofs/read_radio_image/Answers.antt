@@ -1,4 +1,3 @@
-use borrow.Author.Rules.{rules}
 use Rattle.image_reader.proofs.read_radio_image.Goals as goal
 
 pub returns : goal.returns

@@ -1,11 +1,9 @@
-use mathlib.Core.List.{[]}
 use Prim.Native.Nat.{◌*◌, ◌≤◌}
 use native.Mathlib.Nat.{mul-le-mul}
 use Rattle.rules.specs.Rules.{table_of}
 use Rattle.rules.proofs.First.{table-shape, table-refused, table-then}
 use Rattle.image_rules.specs.Checks.{form_checks}
 use native.Mathlib.Omega.{arith}
-use borrow.Author.Rules.{rules}
 use Rattle.image_rules.proofs.check_image.Goals as goal
 
 pub check_targets-requires : goal.check_targets-requires

@@ -1,6 +1,5 @@
 use mathlib.Core.Path.{sym}
 use borrow.Author.Tests.{lt-ltb, le-ltb}
-use borrow.Author.Rules.{rules}
 use Rattle.image_rules.proofs.check_targets.Goals as goal
 
 pub returns-then-place-cells : goal.returns-then-place-cells

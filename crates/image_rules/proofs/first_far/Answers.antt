@@ -1,10 +1,7 @@
-use mathlib.Core.Path.{◌≡◌, sym, ap, ◌∙◌}
-use mathlib.Core.Bool.{false}
-use Prim.Native.Nat.{ℕ, ◌-◌, ◌/◌, ◌≤◌, ◌<◌}
+use mathlib.Core.Path.{sym, ap, ◌∙◌}
 use native.Mathlib.Nat.{div-le_self}
 use borrow.Author.Count.{below_more}
-use lib.ListN.{length, get_or}
-use Rattle.steps.specs.Steps.{step_of}
+use lib.ListN.{length}
 use Rattle.tables.proofs.Lists.{tabulate-position}
 use Rattle.images.specs.Image.{far}
 use native.Mathlib.Omega.{arith}

@@ -1,13 +1,9 @@
-use mathlib.Core.Path.{◌≡◌, sym, ap, ◌∙◌}
+use mathlib.Core.Path.{◌≡◌}
 use mathlib.Core.Bool.{false}
 use Prim.Native.Nat.{ℕ, ◌-◌, ◌/◌, ◌≤◌, ◌<◌}
-use native.Mathlib.Nat.{div-le_self}
-use borrow.Author.Count.{below_more}
 use lib.ListN.{length, get_or}
 use Rattle.steps.specs.Steps.{step_of}
-use Rattle.tables.proofs.Lists.{tabulate-position}
 use Rattle.images.specs.Image.{far}
-use native.Mathlib.Omega.{arith}
 use Rattle.image_rules.proofs.first_far.Given as goal
 
 abbrev pub invariant-loop-i : goal.invariant-loop-i

@@ -3,7 +3,6 @@ use Rattle.image_sections.specs.declared.Read.TheVariants.{Table}
 use Rattle.image_sections.specs.Read.{at_most}
 use Rattle.image_sections.specs.Sections.{sections_read}
 use Rattle.image_sections.proofs.Sections.{refuses_read, marks_got, more-follows, none-follows}
-use borrow.Author.Rules.{rules}
 use Rattle.image_sections.proofs.judge.Goals as goal
 
 pub returns-in_default : goal.returns-in_default

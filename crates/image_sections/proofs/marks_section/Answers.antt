@@ -8,7 +8,6 @@ use Rattle.rules.proofs.Judged.{spare-zero}
 use Rattle.image_numbers.proofs.Numbers.{number_got}
 use Rattle.image_sections.specs.Sections.{section_of_marks}
 use Rattle.image_sections.proofs.Sections.{refuses}
-use borrow.Author.Rules.{rules}
 use Rattle.image_sections.proofs.marks_section.Goals as goal
 
 pub returns-in_default : goal.returns-in_default

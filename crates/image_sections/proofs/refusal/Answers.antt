@@ -1,6 +1,5 @@
 use mathlib.Core.Path.{sym, ap}
 use Rattle.image_sections.specs.Sections.{refusal_of}
-use borrow.Author.Rules.{rules}
 use Rattle.image_sections.proofs.refusal.Goals as goal
 
 pub returns-in-Refused : goal.returns-in-Refused

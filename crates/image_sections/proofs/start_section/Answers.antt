@@ -2,7 +2,6 @@ use mathlib.Core.Path.{sym, ◌∙◌}
 use borrow.Author.Tests.{eq-eqb, ne_eqb, le-leb, lt-leb}
 use Rattle.image_sections.specs.Sections.{section_of_start}
 use Rattle.image_sections.proofs.Sections.{refuses}
-use borrow.Author.Rules.{rules}
 use Rattle.image_sections.proofs.start_section.Goals as goal
 
 pub returns-in_default : goal.returns-in_default

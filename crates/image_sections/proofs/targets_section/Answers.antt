@@ -9,7 +9,6 @@ use Rattle.image_numbers.proofs.Numbers.{number_got}
 use Rattle.image_sections.specs.Sections.{section_of_targets}
 use Rattle.image_sections.proofs.Sections.{refuses}
 use native.Mathlib.Omega.{arith}
-use borrow.Author.Rules.{rules}
 use Rattle.image_sections.proofs.targets_section.Goals as goal
 
 pub returns-in_default : goal.returns-in_default

@@ -2,7 +2,6 @@ use mathlib.Core.Path.{refl, sym, ap}
 use native.Mathlib.Omega.{arith}
 use Rattle.image_text.specs.Loaded.{cell_count, byte_count}
 use Rattle.image_text.proofs.Taken.{cells_fit, loads}
-use borrow.Author.Rules.{rules}
 use Rattle.image_text.proofs.load.Goals as goal
 
 pub returns-in_default : goal.returns-in_default

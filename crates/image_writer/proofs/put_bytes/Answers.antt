@@ -1,9 +1,8 @@
-use mathlib.Core.Path.{◌≡◌, refl, sym, ◌∙◌}
-use Prim.Native.Nat.{◌+◌, ◌-◌, ◌≤◌}
+use mathlib.Core.Path.{refl, sym, ◌∙◌}
+use Prim.Native.Nat.{◌+◌}
 use native.Mathlib.Omega.{arith}
 use native.Mathlib.Numerals.{add-one}
-use lib.ListN.{length, get_or, take, length-set}
-use Rattle.tables.specs.Lists.{over}
+use lib.ListN.{get_or, length-set}
 use Rattle.tables.proofs.Over.{over_none, over-next, over-all}
 use Rattle.image_writer.proofs.put_bytes.Goals as goal
 

@@ -10,7 +10,6 @@ use Rattle.images.specs.Image.{number, width, targets, image_of}
 use Rattle.images.proofs.Image.{targets-length}
 use Rattle.images.proofs.Targets.{width_most}
 use native.Mathlib.Omega.{arith}
-use borrow.Author.Rules.{rules}
 use Rattle.image_writer.proofs.put_image.Goals as goal
 
 pub put_targets-requires : goal.put_targets-requires

@@ -2,7 +2,6 @@ use Prim.Native.Nat.{◌/◌, ◌%◌}
 use native.Mathlib.Omega.{arith}
 use lib.ListN.{length-set}
 use Rattle.tables.proofs.Over.{over_two}
-use borrow.Author.Rules.{rules}
 use Rattle.image_writer.proofs.put_number.Goals as goal
 
 pub bounds-out-at-2 : goal.bounds-out-at-2

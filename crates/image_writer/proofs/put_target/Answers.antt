@@ -4,7 +4,6 @@ use Rattle.steps.specs.declared.Step.{Step}
 use Rattle.tables.specs.Lists.{over}
 use Rattle.images.specs.Image.{number, step_bytes, target_bytes}
 use Rattle.images.specs.declared.Form.{Form}
-use borrow.Author.Rules.{rules}
 use Rattle.image_writer.proofs.put_target.Goals as goal
 
 pub put_number-requires : goal.put_number-requires

@@ -1,16 +1,8 @@
-use mathlib.Core.Path.{◌≡◌, refl, sym, ap, ◌∙◌}
-use mathlib.Core.List.{List}
-use Prim.Native.Nat.{ℕ, ◌+◌, ◌*◌, ◌-◌, ◌/◌, ◌≤◌}
-use native.Mathlib.Nat.{div-le_self}
-use native.Mathlib.Numerals.{add-one}
-use lib.ListN.{length, get_or, take}
-use lib.Seq.{take_all}
+use mathlib.Core.Path.{◌≡◌}
+use Prim.Native.Nat.{◌-◌, ◌≤◌}
+use lib.ListN.{length, take}
 use Rattle.tables.specs.Lists.{over}
-use Rattle.tables.proofs.Over.{over_none, over-length}
-use Rattle.images.specs.Image.{width, target_bytes, targets}
-use Rattle.images.proofs.Sections.{Wide, section-none, section-next}
-use Rattle.images.proofs.Targets.{target_length, width_most, width-below}
-use native.Mathlib.Omega.{arith}
+use Rattle.images.specs.Image.{targets}
 use Rattle.image_writer.proofs.put_targets.Given as goal
 
 abbrev pub invariant-loop-i : goal.invariant-loop-i

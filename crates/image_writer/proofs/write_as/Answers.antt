@@ -6,7 +6,6 @@ use Rattle.image_rules.proofs.Judged.{image-fine}
 use Rattle.image_rules.specs.declared.Written.TheVariants.{Length}
 use Rattle.image_writer.proofs.Writing.{write-refused, write-short, write-fine, writes}
 use native.Mathlib.Omega.{arith}
-use borrow.Author.Rules.{rules}
 use Rattle.image_writer.proofs.write_as.Goals as goal
 
 pub overflow_cast-rows : goal.overflow_cast-rows

@@ -1,4 +1,3 @@
-use borrow.Author.Rules.{rules}
 use Rattle.image_writer.proofs.write_radio_image.Goals as goal
 
 pub returns : goal.returns

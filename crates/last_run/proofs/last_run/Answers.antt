@@ -2,7 +2,6 @@ use mathlib.Core.Path.{sym, ◌∙◌}
 use native.Mathlib.Omega.{arith}
 use Rattle.rules.specs.Rules.{table_of, offset_of}
 use Rattle.last_run.proofs.Promised.{refused, ready, promised}
-use borrow.Author.Rules.{rules}
 use Rattle.last_run.proofs.last_run.Goals as goal
 
 pub overflow_cast-n : goal.overflow_cast-n

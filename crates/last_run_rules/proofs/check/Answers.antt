@@ -1,7 +1,6 @@
 use native.Mathlib.Omega.{arith}
 use Rattle.rules.specs.Rules.{table_of}
 use Rattle.last_run_rules.proofs.Order.{shape_refused, no_row, then-all}
-use borrow.Author.Rules.{rules}
 use Rattle.last_run_rules.proofs.check.Goals as goal
 
 pub returns-then-rows-row : goal.returns-then-rows-row

@@ -1,9 +1,8 @@
-use mathlib.Core.List.{[], ◌∷◌}
+use mathlib.Core.List.{◌∷◌}
 use native.Mathlib.Omega.{arith}
 use Rattle.rules.specs.Rules.{table_of, room_rule, mask_rule}
 use Rattle.rules.proofs.First.{table-refused, table-then, few_rows}
 use Rattle.scratch.specs.Scratch.{scratch_cells}
-use borrow.Author.Rules.{rules}
 use Rattle.last_run_rules.proofs.check_all.Goals as goal
 
 pub overflow_cast-rows : goal.overflow_cast-rows

@@ -6,7 +6,6 @@ use Rattle.rules.specs.declared.Verdict.TheVariants.{Fine}
 use Rattle.rules.proofs.First.{room_broken, room_kept}
 use Rattle.scratch.specs.Scratch.{scratch_cells}
 use Rattle.pairs.proofs.Triangle.{needed-value}
-use borrow.Author.Rules.{rules}
 use Rattle.last_run_rules.proofs.check_scratch.Goals as goal
 
 pub returns-then-room-needed : goal.returns-then-room-needed

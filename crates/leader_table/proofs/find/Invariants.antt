@@ -1,10 +1,7 @@
-use Prim.Native.Nat.{ℕ, suc, ◌+◌, ◌-◌, ◌*◌, ◌/◌, ◌≤◌, ◌<◌}
-use mathlib.Core.Path.{◌≡◌, sym, ap, subst, ◌∙◌}
-use Rattle.scratch.proofs.Numbers.{product_bound}
+use Prim.Native.Nat.{ℕ, suc, ◌-◌, ◌≤◌, ◌<◌}
+use mathlib.Core.Path.{◌≡◌}
 use Rattle.splitting.specs.Places.{key_at, tab_at}
 use Rattle.leader_table.specs.Putting.{slot_of, Alike}
-use Rattle.leader_table.proofs.Cells.{between_more}
-use native.Mathlib.Omega.{arith}
 use Rattle.leader_table.proofs.find.Given as goal
 
 abbrev pub invariant-loop-at : goal.invariant-loop-at

@@ -3,7 +3,6 @@ use mathlib.Core.Path.{◌≡◌, refl, sym, ap, ◌∙◌}
 use lib.ListN.{set, length-set}
 use Rattle.leader_table.specs.Putting.{hash_in, Alike, full, entered, follows, leads}
 use native.Mathlib.Omega.{arith}
-use borrow.Author.Rules.{rules}
 use Rattle.leader_table.proofs.put_place.Goals as goal
 
 pub returns-then-n-at : goal.returns-then-n-at

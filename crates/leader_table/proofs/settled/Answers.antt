@@ -2,7 +2,6 @@ use mathlib.Core.Bool.{true≢false, false≢true}
 use mathlib.Core.Logic.{inl, inr, ⊎_elim}
 use borrow.Author.Tests.{not-true, not-false}
 use native.Mathlib.Omega.{arith}
-use borrow.Author.Rules.{rules}
 use Rattle.leader_table.proofs.settled.Goals as goal
 
 pub returns-then-c-i : goal.returns-then-c-i

@@ -1,7 +1,6 @@
 use mathlib.Core.Bool.{false≢true}
 use borrow.Author.Tests.{leb-true, leb-false}
 use native.Mathlib.Omega.{arith}
-use borrow.Author.Rules.{rules}
 use Rattle.leader_table.proofs.sized.Goals as goal
 
 pub returns-then-n-gt1024 : goal.returns-then-n-gt1024

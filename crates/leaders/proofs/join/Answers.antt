@@ -1,11 +1,9 @@
 use mathlib.Core.Path.{◌∙◌}
-use mathlib.Core.Logic.{⊎_elim}
 use borrow.Author.Tests.{not-false}
 use Rattle.leaders.proofs.Regions.{kept_none, kept_then, sizes_still}
 use Rattle.leaders.proofs.Signatures.{hand_still}
 use Rattle.leaders.proofs.Begin.{begin, end, calm_above}
 use native.Mathlib.Omega.{arith}
-use borrow.Author.Rules.{rules}
 use mathlib.Core.Bool.{not}
 use mathlib.Core.Path.{ap}
 use Rattle.leaders.proofs.join.Goals.{else-last-gt65535, then-last-gt65535}

@@ -4,7 +4,6 @@ use borrow.Author.Tests.{not-true}
 use Rattle.leader_table.proofs.Cells.{put_size}
 use Rattle.leaders.specs.Steps.{rests, passed, noted, Stepped}
 use native.Mathlib.Omega.{arith}
-use borrow.Author.Rules.{rules}
 use mathlib.Core.Bool.{not}
 use mathlib.Core.Path.{ap}
 use Rattle.leaders.proofs.step.Goals as goal

@@ -1,6 +1,5 @@
-use Prim.Native.Nat.{ℕ, ◌-◌, ◌≤◌}
+use Prim.Native.Nat.{ℕ}
 use mathlib.Core.Path.{◌≡◌, subst, ◌∙◌}
-use Rattle.leaders.specs.Leaders.{InHand, Kept}
 use Rattle.leaders.specs.Steps.{JoiningIn}
 use Rattle.leaders.proofs.Regions.{kept_none, kept_then, sizes_still}
 use Rattle.leaders.proofs.Turns.{step_kept, step_few, step-joins}

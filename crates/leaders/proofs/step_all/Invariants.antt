@@ -1,10 +1,6 @@
-use Prim.Native.Nat.{ℕ, ◌-◌, ◌≤◌}
-use mathlib.Core.Path.{◌≡◌, subst, ◌∙◌}
+use Prim.Native.Nat.{◌-◌, ◌≤◌}
 use Rattle.leaders.specs.Leaders.{InHand, Kept}
 use Rattle.leaders.specs.Steps.{JoiningIn}
-use Rattle.leaders.proofs.Regions.{kept_none, kept_then, sizes_still}
-use Rattle.leaders.proofs.Turns.{step_kept, step_few, step-joins}
-use native.Mathlib.Omega.{arith}
 use Rattle.leaders.proofs.step_all.Given as goal
 
 abbrev pub invariant-loop-i : goal.invariant-loop-i

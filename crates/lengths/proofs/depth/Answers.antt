@@ -4,7 +4,6 @@ use native.Mathlib.Omega.{arith}
 use Rattle.tables.specs.Lengths.{one_less}
 use Rattle.lengths.specs.Lengths.{len_of}
 use Rattle.lengths.proofs.Cells.{cell-endless, less_finite}
-use borrow.Author.Rules.{rules}
 use Rattle.lengths.proofs.depth.Goals as goal
 
 pub returns-then-lead : goal.returns-then-lead

@@ -1,6 +1,5 @@
 use Rattle.rules.specs.Rules.{table_of}
 use Rattle.lengths.proofs.Found.{refuses, finds}
-use borrow.Author.Rules.{rules}
 use mathlib.Core.Bool.{not}
 use mathlib.Core.Path.{ap}
 use Rattle.lengths.proofs.find_lengths.Goals as goal

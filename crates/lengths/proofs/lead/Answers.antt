@@ -1,7 +1,6 @@
 use native.Mathlib.Omega.{arith}
 use Rattle.pairs.proofs.Triangle.{triangle_bound}
 use Rattle.lengths.proofs.Cells.{lead_read}
-use borrow.Author.Rules.{rules}
 use Rattle.lengths.proofs.lead.Goals as goal
 
 pub overflow_add-pair_cells : goal.overflow_add-pair_cells

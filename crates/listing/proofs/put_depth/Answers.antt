@@ -1,7 +1,6 @@
 use mathlib.Core.Path.{ap}
 use Rattle.listing.specs.Listing.{depth_words}
 use Rattle.text.proofs.Buffer.{puts_as, puts_then}
-use borrow.Author.Rules.{rules}
 use Rattle.listing.proofs.put_depth.Goals as goal
 
 pub returns-in-Number : goal.returns-in-Number

@@ -2,7 +2,6 @@ use mathlib.Core.Path.{ap}
 use Rattle.records.specs.declared.Fate.{Fate}
 use Rattle.listing.specs.Listing.{fate_words}
 use Rattle.text.proofs.Buffer.{puts_as}
-use borrow.Author.Rules.{rules}
 use Rattle.listing.proofs.put_fate.Goals as goal
 
 pub returns-in-Kept : goal.returns-in-Kept

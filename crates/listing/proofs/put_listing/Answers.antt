@@ -1,7 +1,6 @@
 use Rattle.text.specs.Text.{joined}
 use Rattle.listing.specs.Listing.{row_line, listing}
 use Rattle.text.proofs.Buffer.{puts_then}
-use borrow.Author.Rules.{rules}
 use Rattle.listing.proofs.put_listing.Goals as goal
 
 pub returns : goal.returns

@@ -4,7 +4,6 @@ use borrow.Author.Tests.{eq-eqb, ne_eqb}
 use Rattle.text.specs.Text.{text}
 use Rattle.listing.specs.Listing.{mark_words}
 use Rattle.text.proofs.Buffer.{puts_as}
-use borrow.Author.Rules.{rules}
 use Rattle.listing.proofs.put_mark.Goals as goal
 
 pub returns-then-mark-eq1 : goal.returns-then-mark-eq1

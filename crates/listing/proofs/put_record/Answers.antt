@@ -1,6 +1,5 @@
 use Rattle.listing.specs.Listing.{record_line}
 use Rattle.text.proofs.Buffer.{puts_then}
-use borrow.Author.Rules.{rules}
 use Rattle.listing.proofs.put_record.Goals as goal
 
 pub returns : goal.returns

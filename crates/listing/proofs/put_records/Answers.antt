@@ -1,13 +1,9 @@
 use mathlib.Core.Path.{◌≡◌, refl, sym, ap, ◌∙◌}
-use mathlib.Core.List.{List}
-use Prim.Native.Nat.{ℕ, ◌-◌, ◌≤◌}
+use Prim.Native.Nat.{ℕ}
 use native.Mathlib.Omega.{arith}
-use lib.ListN.{length, get_or}
-use Rattle.records.specs.declared.Record.{Record}
-use Rattle.text.specs.Text.{joined, Puts}
-use Rattle.listing.specs.Listing.{record_line, blank}
+use Rattle.text.specs.Text.{joined}
+use Rattle.listing.specs.Listing.{record_line}
 use Rattle.text.proofs.Buffer.{puts_as, puts_first, puts_next}
-use borrow.Author.Rules.{rules}
 use Rattle.listing.proofs.put_records.Invariants.{line}
 use Rattle.listing.proofs.put_records.Goals as goal
 

@@ -1,13 +1,10 @@
-use mathlib.Core.Path.{◌≡◌, refl, sym, ap, ◌∙◌}
+use mathlib.Core.Path.{◌≡◌}
 use mathlib.Core.List.{List}
 use Prim.Native.Nat.{ℕ, ◌-◌, ◌≤◌}
-use native.Mathlib.Omega.{arith}
 use lib.ListN.{length, get_or}
 use Rattle.records.specs.declared.Record.{Record}
 use Rattle.text.specs.Text.{joined, Puts}
 use Rattle.listing.specs.Listing.{record_line, blank}
-use Rattle.text.proofs.Buffer.{puts_as, puts_first, puts_next}
-use borrow.Author.Rules.{rules}
 use Rattle.listing.proofs.put_records.Given as goal
 
 -- the line of a given row

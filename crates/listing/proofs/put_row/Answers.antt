@@ -2,7 +2,6 @@ use mathlib.Core.Path.{ap, sym, ◌∙◌}
 use Rattle.tables.specs.Table.{mark_of}
 use Rattle.listing.specs.Listing.{mark_words, row_line}
 use Rattle.text.proofs.Buffer.{puts_as, puts_then}
-use borrow.Author.Rules.{rules}
 use Rattle.listing.proofs.put_row.Goals as goal
 
 pub returns : goal.returns

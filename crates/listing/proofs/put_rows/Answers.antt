@@ -1,11 +1,9 @@
 use mathlib.Core.Path.{◌≡◌, refl, ap, ◌∙◌}
-use Prim.Native.Nat.{ℕ, ◌-◌, ◌≤◌}
+use Prim.Native.Nat.{ℕ}
 use native.Mathlib.Omega.{arith}
-use lib.ListN.{length}
-use Rattle.text.specs.Text.{joined, Puts}
+use Rattle.text.specs.Text.{joined}
 use Rattle.listing.specs.Listing.{row_line}
 use Rattle.text.proofs.Buffer.{puts_as, puts_first, puts_next}
-use borrow.Author.Rules.{rules}
 use Rattle.listing.proofs.put_rows.Goals as goal
 
 pub loop-row-init : goal.loop-row-init

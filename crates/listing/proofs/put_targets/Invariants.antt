@@ -1,11 +1,8 @@
-use mathlib.Core.Path.{◌≡◌, refl, sym, ap, ◌∙◌}
-use Prim.Native.Nat.{ℕ, ◌-◌, ◌≤◌}
-use native.Mathlib.Omega.{arith}
+use mathlib.Core.Path.{◌≡◌}
+use Prim.Native.Nat.{◌-◌, ◌≤◌}
 use lib.ListN.{length}
-use Rattle.text.specs.Text.{decimal, joined, Puts}
+use Rattle.text.specs.Text.{joined, Puts}
 use Rattle.listing.specs.Listing.{target_word}
-use Rattle.text.proofs.Buffer.{puts_as, puts_then, puts_first, puts_next}
-use borrow.Author.Rules.{rules}
 use Rattle.listing.proofs.put_targets.Given as goal
 
 abbrev pub invariant-loop-event : goal.invariant-loop-event

@@ -1,9 +1,7 @@
 use mathlib.Core.Path.{◌≡◌, refl, sym, ap, ◌∙◌}
-use Prim.Native.Nat.{◌-◌, ◌*◌, ◌≤◌, ◌<◌}
+use Prim.Native.Nat.{◌*◌, ◌<◌}
 use native.Mathlib.Omega.{arith}
-use lib.ListN.{length, take, length-set}
-use borrow.Author.Rules.{rules}
-use Rattle.tables.specs.Lists.{over}
+use lib.ListN.{length-set}
 use Rattle.tables.proofs.Lists.{tabulate-length}
 use Rattle.tables.proofs.Over.{over_none, over-all, tabulate-next}
 use Rattle.xorshift.specs.Xorshift.{state}

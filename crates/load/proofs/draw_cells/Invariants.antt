@@ -1,15 +1,9 @@
-use mathlib.Core.Path.{◌≡◌, refl, sym, ap, ◌∙◌}
-use Prim.Native.Nat.{◌-◌, ◌*◌, ◌≤◌, ◌<◌}
-use native.Mathlib.Omega.{arith}
-use lib.ListN.{length, take, length-set}
-use borrow.Author.Rules.{rules}
+use mathlib.Core.Path.{◌≡◌}
+use Prim.Native.Nat.{◌-◌, ◌*◌, ◌≤◌}
+use lib.ListN.{length, take}
 use Rattle.tables.specs.Lists.{over}
-use Rattle.tables.proofs.Lists.{tabulate-length}
-use Rattle.tables.proofs.Over.{over_none, over-all, tabulate-next}
 use Rattle.xorshift.specs.Xorshift.{state}
-use Rattle.xorshift.proofs.States.{state-first, state-next}
-use Rattle.load.specs.Load.{load_cell, load_cells}
-use Rattle.load.proofs.Drawing.{cell_is, row_in, count_small}
+use Rattle.load.specs.Load.{load_cells}
 use Rattle.load.proofs.draw_cells.Given as goal
 
 abbrev pub invariant-loop-c : goal.invariant-loop-c

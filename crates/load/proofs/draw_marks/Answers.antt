@@ -1,11 +1,9 @@
-use mathlib.Core.Path.{◌≡◌, ap, ◌∙◌}
-use Prim.Native.Nat.{ℕ, ◌-◌, ◌*◌, ◌≤◌}
+use mathlib.Core.Path.{ap, ◌∙◌}
+use Prim.Native.Nat.{ℕ, ◌*◌}
 use native.Mathlib.Omega.{arith}
-use borrow.Author.Rules.{rules}
 use Rattle.tables.specs.Lists.{over}
-use Rattle.tables.specs.Table.{mark_byte_count, pack}
-use Rattle.marks.proofs.Marking.{Marking, marking_none, marking_next, marking_all}
-use Rattle.xorshift.specs.Xorshift.{state}
+use Rattle.tables.specs.Table.{pack}
+use Rattle.marks.proofs.Marking.{marking_none, marking_next, marking_all}
 use Rattle.xorshift.proofs.States.{state-first, state-next}
 use Rattle.load.proofs.Drawing.{mark_at, mark_small, mark_none, mark_is, marks_same}
 use Rattle.load.proofs.draw_marks.Goals as goal

@@ -1,13 +1,9 @@
-use mathlib.Core.Path.{◌≡◌, ap, ◌∙◌}
-use Prim.Native.Nat.{ℕ, ◌-◌, ◌*◌, ◌≤◌}
-use native.Mathlib.Omega.{arith}
-use borrow.Author.Rules.{rules}
-use Rattle.tables.specs.Lists.{over}
-use Rattle.tables.specs.Table.{mark_byte_count, pack}
-use Rattle.marks.proofs.Marking.{Marking, marking_none, marking_next, marking_all}
+use mathlib.Core.Path.{◌≡◌}
+use Prim.Native.Nat.{◌-◌, ◌*◌, ◌≤◌}
+use Rattle.tables.specs.Table.{mark_byte_count}
+use Rattle.marks.proofs.Marking.{Marking}
 use Rattle.xorshift.specs.Xorshift.{state}
-use Rattle.xorshift.proofs.States.{state-first, state-next}
-use Rattle.load.proofs.Drawing.{mark_at, mark_small, mark_none, mark_is, marks_same}
+use Rattle.load.proofs.Drawing.{mark_at, mark_small}
 use Rattle.load.proofs.draw_marks.Given as goal
 
 abbrev pub invariant-loop-i : goal.invariant-loop-i

@@ -1,5 +1,4 @@
 use lib.ListN.{length}
-use borrow.Author.Rules.{rules}
 use Rattle.load.proofs.Promised.{checked, promise_refused, promise_fine}
 use Rattle.load.proofs.generate.Goals as goal
 

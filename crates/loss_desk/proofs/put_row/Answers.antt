@@ -5,7 +5,6 @@ use lib.Seq.{length-take-le}
 use Prim.Native.Nat.{ℕ, ◌≤◌}
 use Rattle.walks.proofs.Following.{walked_most}
 use Rattle.loss_desk.proofs.Losses.{line-none, line-loss, run_back}
-use borrow.Author.Rules.{rules}
 use Rattle.loss_desk.proofs.put_row.Goals as goal
 
 pub returns-then-into-row : goal.returns-then-into-row

@@ -1,8 +1,7 @@
-use Prim.Native.Nat.{ℕ, ◌-◌, ◌≤◌}
+use Prim.Native.Nat.{ℕ}
 use mathlib.Core.Path.{◌≡◌, refl, ap, ◌∙◌}
 use native.Mathlib.Omega.{arith}
-use lib.ListN.{length}
-use Rattle.text.specs.Text.{joined, Puts}
+use Rattle.text.specs.Text.{joined}
 use Rattle.text.proofs.Buffer.{puts_first, puts_next, puts_as}
 use Rattle.loss_desk.specs.Lines.{line_at}
 use Rattle.loss_desk.proofs.put_rows.Goals as goal

@@ -1,9 +1,7 @@
-use Prim.Native.Nat.{ℕ, ◌-◌, ◌≤◌}
-use mathlib.Core.Path.{◌≡◌, refl, ap, ◌∙◌}
-use native.Mathlib.Omega.{arith}
+use Prim.Native.Nat.{◌-◌, ◌≤◌}
+use mathlib.Core.Path.{◌≡◌}
 use lib.ListN.{length}
 use Rattle.text.specs.Text.{joined, Puts}
-use Rattle.text.proofs.Buffer.{puts_first, puts_next, puts_as}
 use Rattle.loss_desk.specs.Lines.{line_at}
 use Rattle.loss_desk.proofs.put_rows.Given as goal
 

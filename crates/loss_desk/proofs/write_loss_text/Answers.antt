@@ -2,7 +2,6 @@ use mathlib.Core.Path.{sym}
 use Rattle.text.proofs.Buffer.{puts_as, puts_all}
 use Rattle.image_text.proofs.Offsets.{offset_short, offset-whole}
 use Rattle.loss_desk.specs.Printed.{text_of_losses, printed}
-use borrow.Author.Rules.{rules}
 use Rattle.loss_desk.proofs.write_loss_text.Goals as goal
 
 pub returns-then-input-lt6 : goal.returns-then-input-lt6

@@ -5,7 +5,6 @@ use lib.ListN.{replicate, length-replicate}
 use Rattle.rules.specs.Rules.{table_of, offset_of}
 use Rattle.text.proofs.Buffer.{puts_as}
 use Rattle.loss_desk.proofs.Losses.{refusal_is, text_is}
-use borrow.Author.Rules.{rules}
 use Rattle.loss_desk.proofs.write_losses.Goals as goal
 
 pub overflow_cast-rows : goal.overflow_cast-rows

@@ -1,11 +1,8 @@
-use mathlib.Core.Path.{◌≡◌, refl, ap, ◌∙◌}
-use Prim.Native.Nat.{ℕ, ◌-◌, ◌≤◌}
-use native.Mathlib.Omega.{arith}
+use mathlib.Core.Path.{◌≡◌}
+use Prim.Native.Nat.{◌-◌, ◌≤◌}
 use lib.ListN.{length}
 use Rattle.text.specs.Text.{joined, Puts}
-use Rattle.text.proofs.Buffer.{puts_as, puts_then, puts_first, puts_next}
 use Rattle.loss_text.specs.LossText.{event_word}
-use borrow.Author.Rules.{rules}
 use Rattle.loss_text.proofs.put_events.Given as goal
 
 abbrev pub invariant-loop-i : goal.invariant-loop-i

@@ -1,6 +1,5 @@
 use Rattle.text.proofs.Buffer.{puts_then}
 use Rattle.loss_text.specs.LossText.{loss_line}
-use borrow.Author.Rules.{rules}
 use Rattle.loss_text.proofs.put_loss.Goals as goal
 
 pub returns : goal.returns

@@ -1,5 +1,4 @@
 use Rattle.text.proofs.Buffer.{puts_then}
-use borrow.Author.Rules.{rules}
 use Rattle.loss_text.proofs.put_named.Goals as goal
 
 pub returns : goal.returns

@@ -1,7 +1,6 @@
 use mathlib.Core.Path.{ap}
 use Rattle.measures.specs.declared.Measure.{Measure}
 use Rattle.measures.proofs.Cells.{measure_read}
-use borrow.Author.Rules.{rules}
 use Rattle.losses.proofs.distance.Goals as goal
 
 pub returns : goal.returns

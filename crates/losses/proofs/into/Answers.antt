@@ -1,7 +1,6 @@
 use native.Mathlib.Omega.{arith}
 use Rattle.pairs.proofs.Triangle.{triangle_bound}
 use Rattle.losses.proofs.Telling.{into_self, into_fold}
-use borrow.Author.Rules.{rules}
 use Rattle.losses.proofs.into.Goals as goal
 
 pub returns-then-lead-eq0 : goal.returns-then-lead-eq0

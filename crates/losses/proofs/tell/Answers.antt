@@ -1,6 +1,5 @@
 use native.Mathlib.Omega.{arith}
 use Rattle.losses.proofs.Telling.{told-short, told-run}
-use borrow.Author.Rules.{rules}
 use Rattle.losses.proofs.tell.Goals as goal
 
 pub returns-then-run-length : goal.returns-then-run-length

@@ -1,6 +1,5 @@
 use mathlib.Core.Path.{ap, ◌∙◌}
 use Rattle.measures.specs.Measures.{measure_in}
-use borrow.Author.Rules.{rules}
 use Rattle.measures.proofs.between.Goals as goal
 
 pub returns : goal.returns

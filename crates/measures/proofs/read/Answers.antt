@@ -2,7 +2,6 @@ use mathlib.Core.Path.{sym, ap, ◌∙◌}
 use native.Mathlib.Omega.{arith}
 use Rattle.measures.specs.Measures.{saying}
 use Rattle.measures.proofs.Codes.{read_low, read_endless, read_settled}
-use borrow.Author.Rules.{rules}
 use Rattle.measures.proofs.read.Goals as goal
 
 pub returns-then-cell-lt1056 : goal.returns-then-cell-lt1056

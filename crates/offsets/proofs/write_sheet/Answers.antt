@@ -1,7 +1,6 @@
 use native.Mathlib.Omega.{arith}
 use Rattle.rules.specs.Rules.{table_of}
 use Rattle.offsets.proofs.Promised.{promised-refused, fine-rows, promised-fine}
-use borrow.Author.Rules.{rules}
 use Rattle.offsets.proofs.write_sheet.Goals as goal
 
 pub overflow_cast-n : goal.overflow_cast-n

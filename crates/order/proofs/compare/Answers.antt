@@ -1,7 +1,6 @@
 use mathlib.Core.Path.{sym, ◌∙◌}
 use Rattle.order.proofs.Answers.{refused, sizes, over-same, answered}
 use native.Mathlib.Omega.{arith}
-use borrow.Author.Rules.{rules}
 use Rattle.order.proofs.compare.Goals as goal
 
 pub overflow_cast-n : goal.overflow_cast-n

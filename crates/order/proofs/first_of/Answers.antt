@@ -2,7 +2,6 @@ use Prim.Native.Nat.{◌/◌}
 use mathlib.Core.Path.{ap}
 use Rattle.order.proofs.Rows.{row_below, some-rows}
 use native.Mathlib.Omega.{arith}
-use borrow.Author.Rules.{rules}
 use Rattle.order.proofs.first_of.Goals as goal
 
 pub nonzero_div-result : goal.nonzero_div-result

@@ -1,13 +1,8 @@
 use Prim.Native.Nat.{ℕ, suc, ◌-◌, ◌≤◌, ◌<◌}
-use mathlib.Core.Path.{◌≡◌, sym, ◌∙◌}
-use borrow.Author.Count.{below_more}
+use mathlib.Core.Path.{◌≡◌}
 use lib.ListN.{get_or}
-use Rattle.ordering.proofs.First.{found_none, found_at}
-use Rattle.scratch.specs.Scratch.{machine_by}
 use Rattle.order.specs.Cells.{tells}
-use Rattle.order.specs.Search.{events_in, graph_by}
-use Rattle.order.proofs.Events.{tells-step}
-use native.Mathlib.Omega.{arith}
+use Rattle.order.specs.Search.{graph_by}
 use Rattle.order.proofs.first_told.Given as goal
 
 abbrev pub invariant-loop-event : goal.invariant-loop-event

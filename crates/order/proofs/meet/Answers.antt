@@ -4,7 +4,6 @@ use Rattle.tables.specs.Table.{mark_of}
 use Rattle.order.specs.Cells.{lower_of}
 use Rattle.order.proofs.Meeting.{worse_two, worse-one, worse_same, met-before, met_now}
 use native.Mathlib.Omega.{arith}
-use borrow.Author.Rules.{rules}
 use Rattle.order.proofs.meet.Goals as goal
 
 pub returns-then-cell-ne0 : goal.returns-then-cell-ne0

@@ -1,9 +1,5 @@
 use Prim.Native.Nat.{◌-◌, ◌≤◌, ◌<◌}
-use Rattle.ordering.proofs.Pairs.{pairs_inside}
 use Rattle.order.specs.Search.{graph_by, Climbing}
-use Rattle.order.proofs.Levels.{given_after}
-use Rattle.order.proofs.Climbs.{climb_begin, begun-size, climb-next, climb-none, climb-told, climb_end, sought_from}
-use native.Mathlib.Omega.{arith}
 use Rattle.order.proofs.meet_pairs.Given as goal
 
 abbrev pub invariant-loop-level : goal.invariant-loop-level

@@ -1,5 +1,4 @@
 use Rattle.order.proofs.Meeting.{order-second}
-use borrow.Author.Rules.{rules}
 use Rattle.order.proofs.order_of.Goals as goal
 
 pub returns : goal.returns

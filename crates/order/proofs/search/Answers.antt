@@ -1,6 +1,5 @@
 use Rattle.order.proofs.Answers.{given, at_once, clear-size, bare, sought-size, no_difference, last-in, told-back-to}
 use native.Mathlib.Omega.{arith}
-use borrow.Author.Rules.{rules}
 use Rattle.order.proofs.search.Goals as goal
 
 pub returns-then-told-ne0 : goal.returns-then-told-ne0

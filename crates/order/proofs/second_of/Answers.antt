@@ -2,7 +2,6 @@ use Prim.Native.Nat.{◌%◌}
 use mathlib.Core.Path.{ap}
 use Rattle.order.proofs.Rows.{other-below, some-rows}
 use native.Mathlib.Omega.{arith}
-use borrow.Author.Rules.{rules}
 use Rattle.order.proofs.second_of.Goals as goal
 
 pub nonzero_rem-result : goal.nonzero_rem-result

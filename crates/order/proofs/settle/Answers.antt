@@ -1,6 +1,4 @@
-use Prim.Native.Nat.{◌-◌, ◌≤◌}
 use Rattle.ordering.proofs.Pairs.{pairs_inside}
-use Rattle.order.specs.Search.{graph_by, Settling}
 use Rattle.order.proofs.Rows.{pair_bound}
 use Rattle.order.proofs.Settles.{settle_none, settle-pair, settle_other, settle_end}
 use native.Mathlib.Omega.{arith}

@@ -1,10 +1,5 @@
 use Prim.Native.Nat.{◌-◌, ◌≤◌}
-use Rattle.ordering.proofs.Pairs.{pairs_inside}
 use Rattle.order.specs.Search.{graph_by, Spreading}
-use Rattle.order.proofs.Rows.{pair_bound}
-use Rattle.order.proofs.Spreads.{spread_none, spread-other, level_before, spread_end}
-use Rattle.order.proofs.Levels.{given_after}
-use native.Mathlib.Omega.{arith}
 use Rattle.order.proofs.spread.Given as goal
 
 abbrev pub invariant-loop-next : goal.invariant-loop-next

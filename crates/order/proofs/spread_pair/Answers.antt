@@ -1,7 +1,4 @@
-use Prim.Native.Nat.{◌-◌, ◌≤◌}
-use mathlib.Core.Path.{◌≡◌, refl}
-use lib.ListN.{length}
-use Rattle.order.specs.Search.{graph_by, Going}
+use mathlib.Core.Path.{refl}
 use Rattle.order.proofs.Events.{going_first, going_event, going_all}
 use native.Mathlib.Omega.{arith}
 use borrow.Author.Rules.{rules}

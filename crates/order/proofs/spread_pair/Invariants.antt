@@ -1,10 +1,7 @@
 use Prim.Native.Nat.{◌-◌, ◌≤◌}
-use mathlib.Core.Path.{◌≡◌, refl}
+use mathlib.Core.Path.{◌≡◌}
 use lib.ListN.{length}
 use Rattle.order.specs.Search.{graph_by, Going}
-use Rattle.order.proofs.Events.{going_first, going_event, going_all}
-use native.Mathlib.Omega.{arith}
-use borrow.Author.Rules.{rules}
 use Rattle.order.proofs.spread_pair.Given as goal
 
 abbrev pub invariant-loop-event : goal.invariant-loop-event

@@ -1,7 +1,5 @@
-use Prim.Native.Nat.{ℕ, ◌-◌, ◌≤◌, ◌<◌}
 use mathlib.Core.Path.{refl}
 use Rattle.ordering.proofs.Pairs.{pairs_inside}
-use Rattle.order.specs.Search.{graph_by, Framed, Told}
 use Rattle.order.proofs.Levels.{given_after, framed_then}
 use Rattle.order.proofs.Settles.{told_back, settle_framed, told-first}
 use native.Mathlib.Omega.{arith}

@@ -1,9 +1,7 @@
-use mathlib.Core.List.{[]}
 use Rattle.rules.specs.Rules.{table_of}
 use Rattle.rules.proofs.First.{few_rows}
 use Rattle.order_rules.proofs.Judged.{first-refused, first_fine}
 use native.Mathlib.Omega.{arith}
-use borrow.Author.Rules.{rules}
 use Rattle.order_rules.proofs.check.Goals as goal
 
 pub overflow_cast-rows : goal.overflow_cast-rows

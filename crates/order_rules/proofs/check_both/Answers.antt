@@ -1,6 +1,5 @@
 use Rattle.order_rules.proofs.Judged.{counts_differ, room-short, both-kept}
 use native.Mathlib.Omega.{arith}
-use borrow.Author.Rules.{rules}
 use Rattle.order_rules.proofs.check_both.Goals as goal
 
 pub returns-then-events-events2 : goal.returns-then-events-events2

@@ -1,10 +1,8 @@
-use mathlib.Core.List.{[]}
 use Rattle.rules.specs.Rules.{table_of}
 use Rattle.rules.proofs.First.{few_rows}
 use Rattle.order_rules.specs.Checks.{both_checks}
 use Rattle.order_rules.proofs.Judged.{refused_then, fine_then}
 use native.Mathlib.Omega.{arith}
-use borrow.Author.Rules.{rules}
 use Rattle.order_rules.proofs.check_second.Goals as goal
 
 pub overflow_cast-rows2 : goal.overflow_cast-rows2

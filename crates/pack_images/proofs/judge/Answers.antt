@@ -1,10 +1,9 @@
 use mathlib.Core.Path.{sym, ap, ◌∙◌}
-use Prim.Native.Nat.{◌-◌}
 use native.Mathlib.Numerals.{add-one}
 use Rattle.pack_images.specs.Judge.{refusal_in}
 use Rattle.tables.proofs.Over.{rest_is}
 use Rattle.pack_images.proofs.Walk.{front}
-use Rattle.pack_images.proofs.Judging.{Judging, judging_begin, judging-refused, few_rows, few-events, image-inside, judging-next, judging-more, judging-end}
+use Rattle.pack_images.proofs.Judging.{judging_begin, judging-refused, few_rows, few-events, image-inside, judging-next, judging-more, judging-end}
 use native.Mathlib.Omega.{arith}
 use Rattle.pack_images.proofs.judge.Goals as goal
 

@@ -4,7 +4,6 @@ use Rattle.rules.specs.Rules.{winch}
 use Rattle.rules.specs.declared.Limits.{Limits}
 use Rattle.image_sections.specs.Read.{at_most, read_of}
 use Rattle.image_sections.proofs.Order.{image-order, no_twelve}
-use borrow.Author.Rules.{rules}
 use Rattle.pack_images.proofs.open_image.Goals as goal
 
 pub returns : goal.returns

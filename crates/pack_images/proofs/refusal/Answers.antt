@@ -1,5 +1,4 @@
 use borrow.Author.Tests.{ne_eqb}
-use borrow.Author.Rules.{rules}
 use Rattle.pack_images.proofs.refusal.Goals as goal
 
 pub returns-then-number-eq8 : goal.returns-then-number-eq8

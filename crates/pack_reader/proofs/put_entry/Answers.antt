@@ -1,7 +1,6 @@
 use lib.ListN.{length-set}
 use Rattle.tables.proofs.Over.{over_three}
 use native.Mathlib.Omega.{arith}
-use borrow.Author.Rules.{rules}
 use Rattle.pack_reader.proofs.put_entry.Goals as goal
 
 pub bounds-list-at-2 : goal.bounds-list-at-2

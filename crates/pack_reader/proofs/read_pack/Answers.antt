@@ -4,7 +4,6 @@ use Rattle.image_numbers.proofs.Numbers.{number_cut}
 use Rattle.packs.specs.declared.Unpacked.TheVariants.{Tables}
 use Rattle.pack_reader.proofs.Reading.{pack_cut, count-outside, counted, needed-never, needed, unpacks_refused, short_list, short_cells, short-marks, unpacks-tables}
 use native.Mathlib.Omega.{arith}
-use borrow.Author.Rules.{rules}
 use Rattle.pack_reader.proofs.read_pack.Goals as goal
 
 pub returns-in_default : goal.returns-in_default

@@ -1,7 +1,7 @@
 use mathlib.Core.Path.{ap, ap₂, ◌∙◌}
 use mathlib.Core.Bool.{false}
 use mathlib.Core.List.{List}
-use Prim.Native.Nat.{ℕ, ◌-◌}
+use Prim.Native.Nat.{ℕ}
 use lib.ListN.{length, drop}
 use Rattle.rules.specs.Rules.{winch}
 use Rattle.tables.proofs.Over.{rest, rest_is, rest-length}
@@ -11,7 +11,6 @@ use Rattle.image_sections.specs.Read.{any_rows}
 use Rattle.image_reader.specs.Read.{read_in_form}
 use Rattle.pack_reader.specs.Walk.{part_from}
 use Rattle.pack_reader.proofs.Reading.{rest_from, cells_part, marks_part}
-use borrow.Author.Rules.{rules}
 use Rattle.pack_reader.proofs.take_image.Goals as goal
 
 pub returns : goal.returns

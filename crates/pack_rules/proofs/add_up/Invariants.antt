@@ -1,13 +1,9 @@
-use mathlib.Core.Path.{refl, ap, ◌∙◌}
 use Prim.Native.Nat.{◌*◌, ◌-◌, ◌≤◌}
-use native.Mathlib.Nat.{zero-add}
 use lib.ListN.{length}
 use Rattle.tables.specs.Table.{mark_byte_count}
 use Rattle.images.specs.Image.{length_of_image}
 use Rattle.images.specs.declared.Form.TheVariants.{Radio}
-use Rattle.pack_rules.specs.declared.Entry.{Entry}
-use Rattle.pack_rules.proofs.Sums.{cells_small, marks_small, image-small, Summed, sum-next, sum_fits, sum_none}
-use native.Mathlib.Omega.{arith}
+use Rattle.pack_rules.proofs.Sums.{Summed}
 use Rattle.pack_rules.proofs.add_up.Given as goal
 
 abbrev pub invariant-loop-at : goal.invariant-loop-at

@@ -4,7 +4,6 @@ use lib.ListN.{length}
 use Rattle.rules.proofs.Checks.{inside}
 use Rattle.pack_rules.proofs.Accepted.{pack-judged}
 use native.Mathlib.Omega.{arith}
-use borrow.Author.Rules.{rules}
 use Rattle.pack_rules.proofs.check_pack.Goals as goal
 
 pub returns-then-beyond : goal.returns-then-beyond

@@ -1,8 +1,5 @@
-use mathlib.Core.Path.{◌≡◌, refl, sym, ap, ◌∙◌}
-use Prim.Native.Nat.{◌-◌, ◌≤◌}
-use lib.ListN.{length, drop}
+use mathlib.Core.Path.{refl, sym, ap, ◌∙◌}
 use Rattle.rules.specs.Rules.{judged}
-use Rattle.pack_rules.specs.Checks.{size_checks}
 use Rattle.pack_rules.proofs.Sizes.{sizes_here, sizes_none}
 use native.Mathlib.Omega.{arith}
 use Rattle.pack_rules.proofs.check_sizes.Goals as goal

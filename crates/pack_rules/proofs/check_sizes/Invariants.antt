@@ -1,10 +1,8 @@
-use mathlib.Core.Path.{◌≡◌, refl, sym, ap, ◌∙◌}
+use mathlib.Core.Path.{◌≡◌}
 use Prim.Native.Nat.{◌-◌, ◌≤◌}
 use lib.ListN.{length, drop}
 use Rattle.rules.specs.Rules.{judged}
 use Rattle.pack_rules.specs.Checks.{size_checks}
-use Rattle.pack_rules.proofs.Sizes.{sizes_here, sizes_none}
-use native.Mathlib.Omega.{arith}
 use Rattle.pack_rules.proofs.check_sizes.Given as goal
 
 abbrev pub invariant-loop-at : goal.invariant-loop-at

@@ -1,11 +1,7 @@
-use mathlib.Core.Path.{◌≡◌, refl, sym, ◌∙◌}
-use Prim.Native.Nat.{◌+◌, ◌-◌, ◌≤◌}
-use lib.ListN.{length, drop}
-use Rattle.rules.specs.Rules.{judged}
-use Rattle.rules.specs.declared.Verdict.TheVariants.{Fine}
-use Rattle.packs.specs.Pack.{tables_in}
-use Rattle.pack_rules.specs.Checks.{size_checks, tables_checks}
-use Rattle.pack_rules.proofs.Left.{Left, left-all, tables_left, cells_fit, marks_fit, left-next, sizes-behind, none-judged, here-refused, here-fine}
+use mathlib.Core.Path.{refl, sym, ◌∙◌}
+use Prim.Native.Nat.{◌+◌, ◌≤◌}
+use lib.ListN.{length}
+use Rattle.pack_rules.proofs.Left.{left-all, cells_fit, marks_fit, left-next, sizes-behind, none-judged, here-refused, here-fine}
 use native.Mathlib.Omega.{arith}
 use Rattle.pack_rules.proofs.check_tables.Goals as goal
 

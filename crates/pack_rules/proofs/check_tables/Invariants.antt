@@ -1,12 +1,11 @@
-use mathlib.Core.Path.{◌≡◌, refl, sym, ◌∙◌}
-use Prim.Native.Nat.{◌+◌, ◌-◌, ◌≤◌}
+use mathlib.Core.Path.{◌≡◌}
+use Prim.Native.Nat.{◌-◌}
 use lib.ListN.{length, drop}
 use Rattle.rules.specs.Rules.{judged}
 use Rattle.rules.specs.declared.Verdict.TheVariants.{Fine}
 use Rattle.packs.specs.Pack.{tables_in}
 use Rattle.pack_rules.specs.Checks.{size_checks, tables_checks}
-use Rattle.pack_rules.proofs.Left.{Left, left-all, tables_left, cells_fit, marks_fit, left-next, sizes-behind, none-judged, here-refused, here-fine}
-use native.Mathlib.Omega.{arith}
+use Rattle.pack_rules.proofs.Left.{Left, tables_left}
 use Rattle.pack_rules.proofs.check_tables.Given as goal
 
 abbrev pub invariant-loop-at : goal.invariant-loop-at

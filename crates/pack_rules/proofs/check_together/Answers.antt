@@ -2,7 +2,6 @@ use mathlib.Core.Path.{sym, ◌∙◌}
 use borrow.Author.Tests.{eq-eqb, ne_eqb}
 use Rattle.rules.proofs.First.{room_broken, room_kept}
 use Rattle.pack_rules.proofs.Accepted.{after-together}
-use borrow.Author.Rules.{rules}
 use Rattle.pack_rules.proofs.check_together.Goals as goal
 
 pub returns-then-list-ne0 : goal.returns-then-list-ne0

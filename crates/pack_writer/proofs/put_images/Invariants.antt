@@ -1,8 +1,6 @@
 use Prim.Native.Nat.{◌-◌}
 use lib.ListN.{length}
-use Rattle.pack_rules.proofs.Left.{cells_fit, marks_fit}
-use Rattle.pack_writer.proofs.Writing.{Going, going_all, going_none, never-refused, ends-within, going_next}
-use native.Mathlib.Omega.{arith}
+use Rattle.pack_writer.proofs.Writing.{Going}
 use Rattle.pack_writer.proofs.put_images.Given as goal
 
 abbrev pub invariant-loop-at : goal.invariant-loop-at

@@ -6,7 +6,6 @@ use Rattle.pack_rules.proofs.Judged.{fine_sendable}
 use Rattle.pack_rules.proofs.Accepted.{fine_accepted}
 use Rattle.pack_writer.proofs.Writing.{count_then, writes}
 use native.Mathlib.Omega.{arith}
-use borrow.Author.Rules.{rules}
 use Rattle.pack_writer.proofs.write_pack.Goals as goal
 
 pub put_count-requires : goal.put_count-requires

@@ -4,7 +4,6 @@ use lib.ListN.{get_or}
 use native.Mathlib.Omega.{arith}
 use Rattle.pairs.proofs.RowStarts.{start_bound}
 use Rattle.pairs.proofs.Cells.{from_greater, from_less, from_same}
-use borrow.Author.Rules.{rules}
 use Rattle.pairs.proofs.pair.Goals as goal
 
 pub overflow_add-row_start : goal.overflow_add-row_start

@@ -3,7 +3,6 @@ use Rattle.pairs.specs.Pairs.{triangle}
 use Rattle.scratch.proofs.Numbers.{product_bound}
 use Rattle.pairs.proofs.Triangle.{triangle_square, triangle-value}
 use native.Mathlib.Omega.{arith}
-use borrow.Author.Rules.{rules}
 use Rattle.pairs.proofs.pair_cells.Goals as goal
 
 pub overflow_mul-result : goal.overflow_mul-result

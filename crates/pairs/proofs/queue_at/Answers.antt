@@ -1,6 +1,5 @@
 use native.Mathlib.Omega.{arith}
 use Rattle.pairs.proofs.Triangle.{triangle_bound}
-use borrow.Author.Rules.{rules}
 use Rattle.pairs.proofs.queue_at.Goals as goal
 
 pub overflow_add-result : goal.overflow_add-result

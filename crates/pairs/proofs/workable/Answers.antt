@@ -3,7 +3,6 @@ use native.Mathlib.Omega.{arith}
 use Rattle.rules.specs.Rules.{table_of}
 use Rattle.pairs.specs.Pairs.{needed}
 use Rattle.scratch.proofs.Works.{small-rows, not-fine, fine-room}
-use borrow.Author.Rules.{rules}
 use mathlib.Core.Bool.{not}
 use mathlib.Core.Path.{ap}
 use Rattle.pairs.proofs.workable.Goals as goal

@@ -1,7 +1,6 @@
 use lib.ListN.{length-set}
 use Rattle.quick_depths.proofs.Finding.{begun}
 use native.Mathlib.Omega.{arith}
-use borrow.Author.Rules.{rules}
 use Rattle.quick_depths.proofs.begin.Goals as goal
 
 pub bounds-scratch-n : goal.bounds-scratch-n

@@ -1,5 +1,4 @@
 use native.Mathlib.Omega.{arith}
-use borrow.Author.Rules.{rules}
 use Rattle.rules.specs.Rules.{table_of}
 use Rattle.scratch.proofs.Works.{small-rows}
 use Rattle.quick_depths.proofs.Told.{not_valid, no_room, ready, answered}

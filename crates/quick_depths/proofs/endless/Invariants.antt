@@ -1,6 +1,4 @@
 use Rattle.quick_depths.specs.Leads.{Grows}
-use Rattle.quick_depths.proofs.Growth.{grows_none, grows_then, grows_size, grows_space}
-use native.Mathlib.Omega.{arith}
 use Rattle.quick_depths.proofs.endless.Given as goal
 
 abbrev pub invariant-loop-left : goal.invariant-loop-left

@@ -1,5 +1,4 @@
 use mathlib.Core.Bool.{false≢true}
-use borrow.Author.Rules.{rules}
 use Rattle.quick_depths.proofs.is_fine.Goals as goal
 
 pub returns-then-scratch-n-eq0-2 : goal.returns-then-scratch-n-eq0-2

@@ -1,5 +1,4 @@
 use Rattle.quick_depths.proofs.Left.{dropped_none, dropped_one}
-use borrow.Author.Rules.{rules}
 use Rattle.quick_depths.proofs.keep_row.Goals as goal
 
 pub returns-then-is_fine : goal.returns-then-is_fine

@@ -1,7 +1,5 @@
 use Prim.Native.Nat.{ℕ, ◌-◌, ◌≤◌, ◌<◌}
 use Rattle.quick_depths.specs.Rounds.{Fine, Dropped}
-use Rattle.quick_depths.proofs.Left.{dropped_none, dropped_hit, dropped_miss, dropped_all}
-use native.Mathlib.Omega.{arith}
 use Rattle.quick_depths.proofs.keep_seen.Given as goal
 
 abbrev pub invariant-loop-q : goal.invariant-loop-q

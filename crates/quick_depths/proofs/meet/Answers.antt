@@ -2,7 +2,6 @@ use Prim.Native.Nat.{◌+◌, ◌*◌}
 use lib.ListN.{length-set}
 use Rattle.quick_depths.proofs.Growth.{grows_marked, grows_met}
 use native.Mathlib.Omega.{arith}
-use borrow.Author.Rules.{rules}
 use Rattle.quick_depths.proofs.meet.Goals as goal
 
 pub returns-then-scratch-r-ne0 : goal.returns-then-scratch-r-ne0

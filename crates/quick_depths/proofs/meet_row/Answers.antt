@@ -1,5 +1,3 @@
-use Prim.Native.Nat.{◌-◌, ◌≤◌}
-use Rattle.quick_depths.specs.Leads.{Grows}
 use Rattle.quick_depths.proofs.Growth.{grows_none, grows_then, grows_size, grows_space, grows_stays}
 use native.Mathlib.Omega.{arith}
 use Rattle.quick_depths.proofs.meet_row.Goals as goal

@@ -1,6 +1,5 @@
 use Rattle.quick_depths.proofs.Growth.{same_space, grows_marked, grows_then}
 use native.Mathlib.Omega.{arith}
-use borrow.Author.Rules.{rules}
 use Rattle.quick_depths.proofs.one_round.Goals as goal
 
 pub returns-then-round : goal.returns-then-round

@@ -1,5 +1,3 @@
-use mathlib.Core.List.{[]}
-use borrow.Author.Rules.{rules}
 use Rattle.quick_depths.proofs.Growth.{space_of, grows_then, grows_marked, grows_front}
 use Rattle.quick_depths.proofs.pass.Goals as goal
 

@@ -1,7 +1,5 @@
 use Prim.Native.Nat.{◌-◌, ◌≤◌}
 use Rattle.quick_depths.specs.Leads.{Grows}
-use Rattle.quick_depths.proofs.Growth.{grows_none, grows_then, grows_size, grows_space}
-use native.Mathlib.Omega.{arith}
 use Rattle.quick_depths.proofs.reach.Given as goal
 
 abbrev pub invariant-loop-i : goal.invariant-loop-i

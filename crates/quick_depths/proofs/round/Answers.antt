@@ -1,7 +1,6 @@
 use Rattle.quick_depths.proofs.Seeing.{spread_space}
 use Rattle.quick_depths.proofs.Left.{round_of}
 use native.Mathlib.Omega.{arith}
-use borrow.Author.Rules.{rules}
 use Rattle.quick_depths.proofs.round.Goals as goal
 
 pub see_more-requires : goal.see_more-requires

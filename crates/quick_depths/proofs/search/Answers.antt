@@ -1,5 +1,4 @@
 use native.Mathlib.Omega.{arith}
-use borrow.Author.Rules.{rules}
 use Rattle.quick_depths.proofs.Growth.{same_space, grows_then, grows_space}
 use Rattle.quick_depths.proofs.Finding.{found}
 use Rattle.quick_depths.proofs.search.Goals as goal

@@ -2,7 +2,6 @@ use Prim.Native.Nat.{◌+◌, ◌*◌}
 use lib.ListN.{length-set}
 use Rattle.quick_depths.proofs.Seeing.{seen_none, seen_one, seen_then, seen_listed}
 use native.Mathlib.Omega.{arith}
-use borrow.Author.Rules.{rules}
 use Rattle.quick_depths.proofs.see.Goals as goal
 
 pub returns-then-scratch-n-ne0 : goal.returns-then-scratch-n-ne0

@@ -1,6 +1,5 @@
 use Rattle.quick_depths.proofs.Seeing.{seen_none, seen_by}
 use native.Mathlib.Omega.{arith}
-use borrow.Author.Rules.{rules}
 use Rattle.quick_depths.proofs.see_event.Goals as goal
 
 pub returns-then-weight-w : goal.returns-then-weight-w

@@ -1,5 +1,4 @@
 use Rattle.quick_depths.proofs.Seeing.{spread_counted}
-use borrow.Author.Rules.{rules}
 use Rattle.quick_depths.proofs.see_left.Goals as goal
 
 pub returns : goal.returns

@@ -1,5 +1,3 @@
-use Prim.Native.Nat.{◌-◌, ◌≤◌}
-use Rattle.quick_depths.specs.Rounds.{Spread}
 use Rattle.quick_depths.proofs.Seeing.{spread_none, spread_then, spread_space}
 use native.Mathlib.Omega.{arith}
 use Rattle.quick_depths.proofs.see_more.Goals as goal

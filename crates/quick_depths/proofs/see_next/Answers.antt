@@ -1,7 +1,6 @@
 use Prim.Native.Nat.{◌<◌}
 use Rattle.quick_depths.proofs.Seeing.{spread_idle}
 use native.Mathlib.Omega.{arith}
-use borrow.Author.Rules.{rules}
 use Rattle.quick_depths.proofs.see_next.Goals as goal
 
 pub returns : goal.returns

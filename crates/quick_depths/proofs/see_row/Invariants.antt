@@ -1,8 +1,5 @@
 use Prim.Native.Nat.{◌-◌, ◌≤◌}
 use Rattle.quick_depths.specs.Rounds.{Seen, ByEvent}
-use Rattle.quick_depths.proofs.Growth.{same_space}
-use Rattle.quick_depths.proofs.Seeing.{seen_none, seen_then}
-use native.Mathlib.Omega.{arith}
 use Rattle.quick_depths.proofs.see_row.Given as goal
 
 abbrev pub invariant-loop-a : goal.invariant-loop-a

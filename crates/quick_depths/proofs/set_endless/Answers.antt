@@ -1,7 +1,6 @@
-use Prim.Native.Nat.{◌-◌, ◌≤◌}
 use Rattle.quick_depths.proofs.Growth.{same_space}
 use Rattle.quick_depths.proofs.Seeing.{wide_of}
-use Rattle.quick_depths.proofs.Left.{Setting, setting_none, setting_next}
+use Rattle.quick_depths.proofs.Left.{setting_none, setting_next}
 use native.Mathlib.Omega.{arith}
 use Rattle.quick_depths.proofs.set_endless.Goals as goal
 

@@ -1,8 +1,5 @@
 use Prim.Native.Nat.{◌-◌, ◌≤◌}
-use Rattle.quick_depths.proofs.Growth.{same_space}
-use Rattle.quick_depths.proofs.Seeing.{wide_of}
-use Rattle.quick_depths.proofs.Left.{Setting, setting_none, setting_next}
-use native.Mathlib.Omega.{arith}
+use Rattle.quick_depths.proofs.Left.{Setting}
 use Rattle.quick_depths.proofs.set_endless.Given as goal
 
 abbrev pub invariant-loop-q : goal.invariant-loop-q

@@ -1,6 +1,5 @@
 use mathlib.Core.Path.{refl}
 use Rattle.quick_depths.specs.Rounds.{not_left, set_it}
-use borrow.Author.Rules.{rules}
 use Rattle.quick_depths.proofs.set_row.Goals as goal
 
 pub returns-then-scratch-n-eq0 : goal.returns-then-scratch-n-eq0

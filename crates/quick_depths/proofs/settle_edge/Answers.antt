@@ -2,7 +2,6 @@ use Prim.Native.Nat.{◌+◌, ◌*◌}
 use lib.ListN.{length-set, set}
 use Rattle.quick_depths.proofs.Growth.{marked-none, marked-set, marked_then}
 use native.Mathlib.Omega.{arith}
-use borrow.Author.Rules.{rules}
 use Rattle.quick_depths.proofs.settle_edge.Goals as goal
 
 pub returns-then-not-is_edge : goal.returns-then-not-is_edge

@@ -1,7 +1,6 @@
 use Prim.Native.Nat.{◌+◌, ◌*◌}
 use Rattle.quick_depths.proofs.Growth.{marked-none, marked-set}
 use native.Mathlib.Omega.{arith}
-use borrow.Author.Rules.{rules}
 use Rattle.quick_depths.proofs.tally.Goals as goal
 
 pub returns-then-is_edge : goal.returns-then-is_edge

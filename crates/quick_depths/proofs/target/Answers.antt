@@ -1,7 +1,6 @@
 use Rattle.scratch.proofs.Numbers.{product_bound}
 use lib.Arith.{digits_lt}
 use native.Mathlib.Omega.{arith}
-use borrow.Author.Rules.{rules}
 use Rattle.quick_depths.proofs.target.Goals as goal
 
 pub overflow_mul-q : goal.overflow_mul-q

@@ -1,11 +1,5 @@
 use Prim.Native.Nat.{ℕ, ◌-◌, ◌≤◌, ◌<◌}
-use mathlib.Core.Bool.{false≢true}
-use borrow.Author.Count.{below_more}
-use borrow.Author.Tests.{not-false}
 use Rattle.quick_folding.specs.Parts.{StaysAt}
-use native.Mathlib.Omega.{arith}
-use mathlib.Core.Bool.{not}
-use mathlib.Core.Path.{ap}
 use Rattle.quick_folding.proofs.all_stay.Given as goal
 
 abbrev pub invariant-loop-a : goal.invariant-loop-a

@@ -8,7 +8,6 @@ use Rattle.quick_folding.proofs.Entering.{shape, appendable, bounds, given}
 use Rattle.quick_folding.proofs.Leaving.{renewable, takable, level-after}
 use Rattle.quick_folding.proofs.Tabling.{begun-at, grouped, level-tabled}
 use native.Mathlib.Omega.{arith}
-use borrow.Author.Rules.{rules}
 use Rattle.quick_folding.proofs.any_level.Goals as goal
 
 pub overflow_sub-more : goal.overflow_sub-more

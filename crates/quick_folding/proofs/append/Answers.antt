@@ -1,4 +1,4 @@
-use Prim.Native.Nat.{ℕ, ◌-◌, ◌≤◌, ◌*◌, ◌+◌}
+use Prim.Native.Nat.{ℕ, ◌*◌, ◌+◌}
 use mathlib.Core.Path.{◌≡◌, refl, subst}
 use lib.ListN.{get_or, length-set}
 use Rattle.quick_folding.specs.Parts.{Appended}

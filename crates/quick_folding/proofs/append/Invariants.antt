@@ -1,9 +1,5 @@
-use Prim.Native.Nat.{ℕ, ◌-◌, ◌≤◌, ◌*◌, ◌+◌}
-use mathlib.Core.Path.{◌≡◌, refl, subst}
-use lib.ListN.{get_or, length-set}
+use Prim.Native.Nat.{◌-◌, ◌≤◌}
 use Rattle.quick_folding.specs.Parts.{Appended}
-use Rattle.quick_folding.proofs.Moves.{append-none, append-row, append-next}
-use native.Mathlib.Omega.{arith}
 use Rattle.quick_folding.proofs.append.Given as goal
 
 abbrev pub invariant-loop-x : goal.invariant-loop-x

@@ -1,7 +1,6 @@
 use Rattle.rules.specs.Rules.{table_of}
 use Rattle.quick_folding.proofs.Whole.{refused, sweepable, labels, answered, aparts-named}
 use native.Mathlib.Omega.{arith}
-use borrow.Author.Rules.{rules}
 use mathlib.Core.Bool.{not}
 use mathlib.Core.Path.{ap}
 use Rattle.quick_folding.proofs.find_apart.Goals as goal

@@ -3,7 +3,6 @@ use Rattle.quick_folding.proofs.Entering.{shape}
 use Rattle.quick_folding.proofs.Ending.{searching, clear_laid, clear_fits, before-first, first_made, before_at, going_at}
 use Rattle.quick_folding.proofs.Tabling.{tabled_none, tells_none}
 use native.Mathlib.Omega.{arith}
-use borrow.Author.Rules.{rules}
 use Rattle.quick_folding.proofs.first_level.Goals as goal
 
 pub overflow_mul-n : goal.overflow_mul-n

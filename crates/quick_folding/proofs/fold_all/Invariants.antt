@@ -1,12 +1,7 @@
 use Prim.Native.Nat.{◌-◌}
-use mathlib.Core.Path.{◌∙◌}
 use Rattle.tables.specs.Table.{weight_by, machine, events_of}
 use Rattle.rules.specs.Rules.{table_of}
 use Rattle.quick_folding.specs.State.{Apart, Going, Tabled}
-use Rattle.quick_folding.proofs.Entering.{fits_still}
-use Rattle.quick_folding.proofs.Ending.{apart_none, apart_then, folded, staying, stays_of}
-use Rattle.quick_folding.proofs.Tabling.{tabled_none}
-use native.Mathlib.Omega.{arith}
 use Rattle.quick_folding.proofs.fold_all.Given as goal
 
 abbrev pub invariant-loop-x : goal.invariant-loop-x

@@ -2,7 +2,6 @@ use mathlib.Core.Path.{sym, ap, ◌∙◌}
 use Rattle.quick_folding.specs.Parts.{list_at}
 use Rattle.quick_folding.proofs.Moves.{fold_none, fold_some}
 use native.Mathlib.Omega.{arith}
-use borrow.Author.Rules.{rules}
 use Rattle.quick_folding.proofs.fold_of.Goals as goal
 
 pub returns-then-scratch-q-eq0 : goal.returns-then-scratch-q-eq0

@@ -1,4 +1,3 @@
-use borrow.Author.Rules.{rules}
 use Rattle.rules.specs.Rules.{table_of, offset_of}
 use Rattle.quick_folding.proofs.Whole.{refused, small, sweepable, labels, answered, folds-named}
 use mathlib.Core.Bool.{not}

@@ -1,7 +1,6 @@
 use Rattle.quick_folding.specs.Grouping.{joined, split}
 use Rattle.quick_folding.proofs.Grouping.{split_after}
 use native.Mathlib.Omega.{arith}
-use borrow.Author.Rules.{rules}
 use Rattle.quick_folding.proofs.group.Goals as goal
 
 pub join_leaders-lost-requires : goal.join_leaders-lost-requires

@@ -3,7 +3,6 @@ use Rattle.leaders.proofs.Regions.{kept_then, sizes_anew}
 use Rattle.leaders.proofs.Begin.{begun_anew, joins-before}
 use Rattle.quick_folding.proofs.Grouping.{emptied, emptied_kept}
 use native.Mathlib.Omega.{arith}
-use borrow.Author.Rules.{rules}
 use Rattle.quick_folding.proofs.join_anew.Goals as goal
 
 pub overflow_mul-n : goal.overflow_mul-n

@@ -3,7 +3,6 @@ use borrow.Author.Tests.{not-false}
 use Rattle.leaders.proofs.Regions.{kept_none, kept_then, sizes_anew}
 use Rattle.leaders.proofs.Begin.{begun_anew, joins-before}
 use native.Mathlib.Omega.{arith}
-use borrow.Author.Rules.{rules}
 use mathlib.Core.Bool.{not}
 use mathlib.Core.Path.{ap}
 use Rattle.quick_folding.proofs.join_leaders.Goals as goal

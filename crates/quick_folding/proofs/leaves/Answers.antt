@@ -1,6 +1,5 @@
 use mathlib.Core.Path.{sym, ◌∙◌}
 use borrow.Author.Tests.{not-false, eqb-true}
-use borrow.Author.Rules.{rules}
 use Rattle.quick_folding.proofs.leaves.Goals as goal
 
 pub returns-then-scratch-q-eq0 : goal.returns-then-scratch-q-eq0

@@ -1,4 +1,4 @@
-use Prim.Native.Nat.{ℕ, ◌-◌, ◌≤◌}
+use Prim.Native.Nat.{ℕ}
 use mathlib.Core.Path.{◌≡◌, subst, ◌∙◌}
 use Rattle.quick_folding.specs.Parts.{fold_at, Valued}
 use Rattle.quick_folding.proofs.Moves.{wrote_none, wrote_next, labels_still, fold_still}

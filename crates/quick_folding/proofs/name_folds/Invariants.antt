@@ -1,8 +1,5 @@
-use Prim.Native.Nat.{ℕ, ◌-◌, ◌≤◌}
-use mathlib.Core.Path.{◌≡◌, subst, ◌∙◌}
+use Prim.Native.Nat.{◌-◌, ◌≤◌}
 use Rattle.quick_folding.specs.Parts.{fold_at, Valued}
-use Rattle.quick_folding.proofs.Moves.{wrote_none, wrote_next, labels_still, fold_still}
-use native.Mathlib.Omega.{arith}
 use Rattle.quick_folding.proofs.name_folds.Given as goal
 
 abbrev pub invariant-loop-q : goal.invariant-loop-q

@@ -2,8 +2,6 @@ use mathlib.Core.Path.{refl, ap, ◌∙◌}
 use Prim.Native.Nat.{ℕ}
 use lib.ListN.{get_or}
 use Rattle.levels.specs.Cells.{need_cell}
-use native.Mathlib.Omega.{arith}
-use borrow.Author.Rules.{rules}
 use Rattle.quick_folding.proofs.next.Goals as goal
 
 pub returns-then-rest : goal.returns-then-rest

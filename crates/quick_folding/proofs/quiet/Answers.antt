@@ -1,7 +1,6 @@
 use mathlib.Core.Bool.{true≢false, false≢true}
 use mathlib.Core.Logic.{inl, inr}
 use native.Mathlib.Omega.{arith}
-use borrow.Author.Rules.{rules}
 use Rattle.quick_folding.proofs.quiet.Goals as goal
 
 pub returns-then-lost-eq0 : goal.returns-then-lost-eq0

@@ -1,4 +1,4 @@
-use Prim.Native.Nat.{ℕ, ◌-◌, ◌≤◌}
+use Prim.Native.Nat.{ℕ}
 use mathlib.Core.Path.{◌≡◌, subst}
 use Rattle.quick_folding.specs.Parts.{Relabelling}
 use Rattle.quick_folding.proofs.Moves.{relabelling_none, relabelling_next, value-still}

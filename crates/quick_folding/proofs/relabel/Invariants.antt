@@ -1,8 +1,5 @@
-use Prim.Native.Nat.{ℕ, ◌-◌, ◌≤◌}
-use mathlib.Core.Path.{◌≡◌, subst}
+use Prim.Native.Nat.{◌-◌, ◌≤◌}
 use Rattle.quick_folding.specs.Parts.{Relabelling}
-use Rattle.quick_folding.proofs.Moves.{relabelling_none, relabelling_next, value-still}
-use native.Mathlib.Omega.{arith}
 use Rattle.quick_folding.proofs.relabel.Given as goal
 
 abbrev pub invariant-loop-q : goal.invariant-loop-q

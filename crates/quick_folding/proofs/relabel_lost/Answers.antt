@@ -1,4 +1,4 @@
-use Prim.Native.Nat.{ℕ, ◌-◌, ◌≤◌, ◌<◌}
+use Prim.Native.Nat.{ℕ, ◌<◌}
 use mathlib.Core.Path.{◌≡◌, sym, subst, ◌∙◌}
 use Rattle.splitting.specs.Places.{jump_at}
 use Rattle.quick_folding.specs.Parts.{list_at, value_at, Losing, Relabelled}

@@ -1,9 +1,5 @@
-use Prim.Native.Nat.{ℕ, ◌-◌, ◌≤◌, ◌<◌}
-use mathlib.Core.Path.{◌≡◌, sym, subst, ◌∙◌}
-use Rattle.splitting.specs.Places.{jump_at}
-use Rattle.quick_folding.specs.Parts.{list_at, value_at, Losing, Relabelled}
-use Rattle.quick_folding.proofs.Losing.{losing_none, losing-next, place_read, row_read, read_ok}
-use native.Mathlib.Omega.{arith}
+use Prim.Native.Nat.{◌-◌, ◌≤◌}
+use Rattle.quick_folding.specs.Parts.{Losing}
 use Rattle.quick_folding.proofs.relabel_lost.Given as goal
 
 abbrev pub invariant-loop-x : goal.invariant-loop-x

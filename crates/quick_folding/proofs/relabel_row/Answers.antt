@@ -4,7 +4,6 @@ use lib.ListN.{set, length-set}
 use Rattle.splitting.specs.Places.{nxt_at}
 use Rattle.quick_folding.specs.Parts.{stayed, changed}
 use native.Mathlib.Omega.{arith}
-use borrow.Author.Rules.{rules}
 use Rattle.quick_folding.proofs.relabel_row.Goals as goal
 
 pub overflow_add-w : goal.overflow_add-w

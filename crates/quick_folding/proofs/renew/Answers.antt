@@ -1,7 +1,6 @@
 use mathlib.Core.Path.{refl}
 use Rattle.quick_folding.specs.Parts.{still, passed}
 use Rattle.quick_folding.proofs.Losing.{passed-all, passed_lost}
-use borrow.Author.Rules.{rules}
 use Rattle.quick_folding.proofs.renew.Goals as goal
 
 pub returns-then-quiet : goal.returns-then-quiet

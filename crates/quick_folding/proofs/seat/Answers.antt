@@ -4,7 +4,6 @@ use lib.ListN.{length-set}
 use Rattle.splitting.specs.Places.{jump_at}
 use Rattle.quick_folding.specs.Parts.{leading, following, joining}
 use native.Mathlib.Omega.{arith}
-use borrow.Author.Rules.{rules}
 use Rattle.quick_folding.proofs.seat.Goals as goal
 
 pub bounds-scratch-n-then-l-i-3 : goal.bounds-scratch-n-then-l-i-3

@@ -1,11 +1,7 @@
 use Prim.Native.Nat.{ℕ, ◌+◌, ◌-◌, ◌*◌, ◌≤◌, ◌<◌}
-use mathlib.Core.Path.{◌≡◌, sym, ◌∙◌}
-use mathlib.Core.Bool.{false≢true}
-use lib.Arith.{digits_lt}
+use mathlib.Core.Path.{◌≡◌}
 use lib.ListN.{get_or}
-use borrow.Author.Count.{below_more}
 use Rattle.scratch.specs.Scratch.{lead_in}
-use native.Mathlib.Omega.{arith}
 use Rattle.quick_folding.proofs.stays.Given as goal
 
 abbrev pub invariant-loop-q : goal.invariant-loop-q

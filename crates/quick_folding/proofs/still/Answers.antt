@@ -1,8 +1,7 @@
-use Prim.Native.Nat.{◌-◌, ◌≤◌}
 use mathlib.Core.Path.{ap, ◌∙◌}
 use mathlib.Core.Bool.{false≢true, true≢false}
 use borrow.Author.Count.{below_more}
-use Rattle.quick_folding.specs.Parts.{Still, value_at}
+use Rattle.quick_folding.specs.Parts.{value_at}
 use native.Mathlib.Omega.{arith}
 use Rattle.quick_folding.proofs.still.Goals as goal
 

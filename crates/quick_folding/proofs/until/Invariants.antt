@@ -1,11 +1,7 @@
 use Prim.Native.Nat.{ℕ, ◌-◌, ◌≤◌, ◌<◌}
-use mathlib.Core.Path.{◌≡◌, sym, ap, subst}
-use mathlib.Core.Logic.{⊎_elim}
 use lib.ListN.{get_or}
-use Rattle.scratch.proofs.Numbers.{eq_or_ne}
 use Rattle.quick_folding.specs.Parts.{list_at}
 use Rattle.levels.specs.Cells.{need_cell}
-use native.Mathlib.Omega.{arith}
 use Rattle.quick_folding.proofs.until.Given as goal
 
 abbrev pub invariant-loop-x : goal.invariant-loop-x

@@ -1,5 +1,4 @@
 use borrow.Author.Tests.{eq-eqb, ne_eqb}
-use borrow.Author.Rules.{rules}
 use Rattle.records.proofs.depth_of.Goals as goal
 
 pub returns-then-lead-eq65535 : goal.returns-then-lead-eq65535

@@ -1,8 +1,6 @@
 use mathlib.Core.Path.{ap}
 use native.Mathlib.Omega.{arith}
-use Prim.Native.Nat.{◌-◌}
 use borrow.Author.Tests.{eq-eqb, ne_eqb}
-use borrow.Author.Rules.{rules}
 use Rattle.records.specs.declared.Fate.TheVariants.{Kept}
 use Rattle.records.proofs.fate_of.Goals as goal
 

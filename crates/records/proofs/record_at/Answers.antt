@@ -1,5 +1,4 @@
 use Rattle.records.proofs.Made.{record_made}
-use borrow.Author.Rules.{rules}
 use Rattle.records.proofs.record_at.Goals as goal
 
 pub returns : goal.returns

@@ -1,7 +1,6 @@
 use Rattle.rules.specs.Rules.{table_of, offset_of}
 use Rattle.ways.specs.Ways.{need_of}
 use Rattle.reduction.proofs.Promised.{promised}
-use borrow.Author.Rules.{rules}
 use Rattle.reduction.proofs.reduce_table.Goals as goal
 
 pub returns : goal.returns

@@ -1,7 +1,6 @@
 use native.Mathlib.Omega.{arith}
 use Rattle.rules.specs.Rules.{table_of, offset_of}
 use Rattle.reduction.proofs.Outcome.{fine-rows, work_refused, work-fine}
-use borrow.Author.Rules.{rules}
 use Rattle.reduction.proofs.work.Goals as goal
 
 pub overflow_cast-n : goal.overflow_cast-n

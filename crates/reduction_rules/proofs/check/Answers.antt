@@ -1,10 +1,9 @@
 use native.Mathlib.Omega.{arith}
-use mathlib.Core.List.{[], ◌∷◌}
+use mathlib.Core.List.{◌∷◌}
 use Rattle.rules.specs.Rules.{mask_rule, table_of}
 use Rattle.rules.proofs.First.{few_rows, few-events}
 use Rattle.ways.specs.Ways.{need_of}
 use Rattle.reduction_rules.proofs.Room.{verdict-refused, verdict-room}
-use borrow.Author.Rules.{rules}
 use Rattle.reduction_rules.proofs.check.Goals as goal
 
 pub overflow_cast-rows : goal.overflow_cast-rows

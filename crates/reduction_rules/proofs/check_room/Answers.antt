@@ -2,7 +2,6 @@ use native.Mathlib.Omega.{arith}
 use Rattle.scratch.proofs.Numbers.{product_bound}
 use Rattle.ways.specs.Ways.{need_of}
 use Rattle.reduction_rules.proofs.Room.{same_product, less_product, short_cells, short-marks, short-records, short_scratch, all-fits}
-use borrow.Author.Rules.{rules}
 use Rattle.reduction_rules.proofs.check_room.Goals as goal
 
 pub overflow_mul-wide : goal.overflow_mul-wide

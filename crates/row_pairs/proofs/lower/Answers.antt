@@ -2,7 +2,6 @@ use mathlib.Core.Path.{ap, ◌∙◌}
 use Rattle.tables.specs.Table.{mark_of}
 use Rattle.row_pairs.proofs.Marks.{first_lower, second_lower, none_lower}
 use native.Mathlib.Omega.{arith}
-use borrow.Author.Rules.{rules}
 use Rattle.row_pairs.proofs.lower.Goals as goal
 
 pub returns-then-x-y : goal.returns-then-x-y

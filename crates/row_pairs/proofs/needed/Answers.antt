@@ -2,7 +2,6 @@ use mathlib.Core.Path.{ap₂}
 use Prim.Native.Nat.{◌*◌}
 use Rattle.scratch.proofs.Numbers.{product_bound}
 use native.Mathlib.Omega.{arith}
-use borrow.Author.Rules.{rules}
 use Rattle.row_pairs.proofs.needed.Goals as goal
 
 pub overflow_mul-result : goal.overflow_mul-result

@@ -1,6 +1,5 @@
 use Rattle.scratch.proofs.Numbers.{product_bound}
 use native.Mathlib.Omega.{arith}
-use borrow.Author.Rules.{rules}
 use Rattle.row_pairs.proofs.place.Goals as goal
 
 pub overflow_add-result : goal.overflow_add-result

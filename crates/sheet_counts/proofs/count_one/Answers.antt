@@ -1,6 +1,5 @@
 use native.Mathlib.Omega.{arith}
 use Rattle.sheet_counts.proofs.Counting.{counted_yes, counted_no}
-use borrow.Author.Rules.{rules}
 use Rattle.sheet_counts.proofs.count_one.Goals as goal
 
 pub overflow_add-list : goal.overflow_add-list

@@ -1,7 +1,6 @@
 use mathlib.Core.Path.{sym}
 use native.Mathlib.Omega.{arith}
 use Rattle.sheet_counts.proofs.Filled.{short_list, short_scratch, filled-then}
-use borrow.Author.Rules.{rules}
 use Rattle.sheet_counts.proofs.fill.Goals as goal
 
 pub returns-then-list-wide : goal.returns-then-list-wide

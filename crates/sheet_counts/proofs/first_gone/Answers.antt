@@ -1,9 +1,7 @@
 use mathlib.Core.Path.{◌∙◌}
-use native.Mathlib.Omega.{arith}
 use Rattle.tables.specs.Lengths.{one_less}
 use Rattle.lengths.specs.Lengths.{len_of}
 use Rattle.sheet_counts.proofs.Rows.{gone-at_once, never-apart, gone-never, gone_then}
-use borrow.Author.Rules.{rules}
 use Rattle.sheet_counts.proofs.first_gone.Goals as goal
 
 pub returns-then-least-eq0 : goal.returns-then-least-eq0

@@ -1,6 +1,5 @@
 use native.Mathlib.Omega.{arith}
 use Rattle.sheet_counts.proofs.Rows.{goes-unreached, goes-reached}
-use borrow.Author.Rules.{rules}
 use Rattle.sheet_counts.proofs.goes_at.Goals as goal
 
 pub returns-then-lead-eq0 : goal.returns-then-lead-eq0

@@ -1,6 +1,5 @@
-use Prim.Native.Nat.{◌-◌, ◌≤◌}
 use native.Mathlib.Omega.{arith}
-use Rattle.sheet_counts.proofs.Counting.{Settled, settled-none, settled_enough, settled-next, settled-all}
+use Rattle.sheet_counts.proofs.Counting.{settled-none, settled_enough, settled-next, settled-all}
 use Rattle.sheet_counts.proofs.settle.Goals as goal
 
 pub loop-k-init : goal.loop-k-init

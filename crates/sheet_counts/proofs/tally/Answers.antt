@@ -1,11 +1,7 @@
 use mathlib.Core.Path.{◌≡◌}
-use mathlib.Core.List.{List}
-use Prim.Native.Nat.{ℕ, suc, ◌+◌, ◌-◌, ◌≤◌}
+use Prim.Native.Nat.{suc, ◌+◌}
 use native.Mathlib.Omega.{arith}
-use lib.ListN.{length}
-use Rattle.scratch.specs.Scratch.{cleared}
-use Rattle.sheet_counts.proofs.Counting.{Tallied, tallied_none, tallied-small, tallied-next, tallied_all}
-use borrow.Author.Rules.{rules}
+use Rattle.sheet_counts.proofs.Counting.{tallied_none, tallied-small, tallied-next, tallied_all}
 use Rattle.sheet_counts.proofs.tally.Goals as goal
 
 pub loop-q-init : goal.loop-q-init

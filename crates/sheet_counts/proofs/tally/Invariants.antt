@@ -1,11 +1,9 @@
 use mathlib.Core.Path.{◌≡◌}
 use mathlib.Core.List.{List}
-use Prim.Native.Nat.{ℕ, suc, ◌+◌, ◌-◌, ◌≤◌}
-use native.Mathlib.Omega.{arith}
+use Prim.Native.Nat.{ℕ, ◌-◌, ◌≤◌}
 use lib.ListN.{length}
 use Rattle.scratch.specs.Scratch.{cleared}
-use Rattle.sheet_counts.proofs.Counting.{Tallied, tallied_none, tallied-small, tallied-next, tallied_all}
-use borrow.Author.Rules.{rules}
+use Rattle.sheet_counts.proofs.Counting.{Tallied}
 use Rattle.sheet_counts.proofs.tally.Given as goal
 
 -- The loop begins with a list that was cleared.

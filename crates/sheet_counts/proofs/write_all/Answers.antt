@@ -4,7 +4,6 @@ use native.Mathlib.Omega.{arith}
 use Rattle.tables.specs.Lists.{tabulate, over}
 use Rattle.sheet_counts.specs.Steps.{kept_at}
 use Rattle.sheet_counts.proofs.Counting.{gone_enough, both}
-use borrow.Author.Rules.{rules}
 use Rattle.sheet_counts.proofs.write_all.Goals as goal
 
 pub tally-requires : goal.tally-requires

@@ -3,7 +3,6 @@ use Rattle.text.proofs.Buffer.{puts_as}
 use Rattle.image_text.specs.ImageText.{masked_text}
 use Rattle.image_text.proofs.Taken.{refused-text, cells_part, cells_length, marks_part, marks_length, taken-valid, taken-text}
 use Rattle.sheet_desk.specs.Printed.{text_of_sheet}
-use borrow.Author.Rules.{rules}
 use Rattle.sheet_desk.proofs.write_image_text.Goals as goal
 
 pub slice_bounds-cells-end : goal.slice_bounds-cells-end

@@ -1,7 +1,6 @@
 use mathlib.Core.Path.{sym}
 use Rattle.text.proofs.Buffer.{puts_as, puts_all}
 use Rattle.sheet_desk.proofs.Input.{short_text, whole-text}
-use borrow.Author.Rules.{rules}
 use Rattle.sheet_desk.proofs.write_sheet_text.Goals as goal
 
 pub returns-then-input-lt4 : goal.returns-then-input-lt4

@@ -1,8 +1,6 @@
 use mathlib.Core.Path.{sym}
-use lib.Seq.{length-take-le}
 use Rattle.text.proofs.Buffer.{puts_as}
 use Rattle.sheet_desk.proofs.Listed.{refusal_is, entries-part, text_is}
-use borrow.Author.Rules.{rules}
 use Rattle.sheet_desk.proofs.write_table_text.Goals as goal
 
 pub slice_bounds-list-end : goal.slice_bounds-list-end

@@ -1,6 +1,5 @@
 use native.Mathlib.Omega.{arith}
 use Rattle.sheet_rules.proofs.Room.{short_scratch, short_list, all-fits}
-use borrow.Author.Rules.{rules}
 use Rattle.sheet_rules.proofs.check_room.Goals as goal
 
 pub returns-then-scratch-needed : goal.returns-then-scratch-needed

@@ -1,7 +1,6 @@
 use mathlib.Core.Path.{refl, sym}
 use native.Mathlib.Omega.{arith}
 use lib.ListN.{get_or-eq_default}
-use borrow.Author.Rules.{rules}
 use Rattle.sheet_text.proofs.last.Goals as goal
 
 pub returns-then-n-eq0 : goal.returns-then-n-eq0

@@ -1,12 +1,9 @@
 use mathlib.Core.Path.{◌≡◌, refl, ap, ◌∙◌}
-use mathlib.Core.List.{List}
-use Prim.Native.Nat.{ℕ, ◌-◌, ◌≤◌}
+use Prim.Native.Nat.{ℕ}
 use native.Mathlib.Omega.{arith}
-use lib.ListN.{length, get_or}
-use Rattle.text.specs.Text.{joined, Puts}
-use Rattle.lines.specs.Lines.{pair_line}
+use lib.ListN.{length}
+use Rattle.text.specs.Text.{joined}
 use Rattle.text.proofs.Buffer.{puts_as, puts_first, puts_next}
-use borrow.Author.Rules.{rules}
 use Rattle.sheet_text.proofs.put_entries.Invariants.{line}
 use Rattle.sheet_text.proofs.put_entries.Goals as goal
 

@@ -1,6 +1,5 @@
 use Rattle.sheet_text.specs.Sheet.{none_line}
 use Rattle.text.proofs.Buffer.{puts_then}
-use borrow.Author.Rules.{rules}
 use Rattle.sheet_text.proofs.put_none.Goals as goal
 
 pub returns : goal.returns

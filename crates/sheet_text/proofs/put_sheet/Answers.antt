@@ -4,7 +4,6 @@ use Rattle.text.specs.Text.{joined}
 use Rattle.lines.specs.Lines.{pair_line}
 use Rattle.text.proofs.Buffer.{puts_as, puts_then}
 use Rattle.sheet_text.specs.Sheet.{none_line, sheet_lines}
-use borrow.Author.Rules.{rules}
 use Rattle.sheet_text.proofs.put_sheet.Goals as goal
 
 pub returns : goal.returns

@@ -1,11 +1,6 @@
-use Prim.Native.Nat.{ℕ, ◌+◌, ◌-◌, ◌*◌, ◌≤◌, ◌<◌}
-use mathlib.Core.Path.{◌≡◌, sym, ap, ◌∙◌}
-use mathlib.Core.Bool.{true≢false, false≢true}
-use borrow.Author.Count.{below_more}
-use lib.ListN.{get_or}
-use Rattle.scratch.proofs.Numbers.{product_bound}
+use Prim.Native.Nat.{ℕ, ◌-◌, ◌≤◌, ◌<◌}
+use mathlib.Core.Path.{◌≡◌}
 use Rattle.signatures.specs.Signatures.{stamp_at, target_at}
-use native.Mathlib.Omega.{arith}
 use Rattle.signatures.proofs.changed.Given as goal
 
 abbrev pub invariant-loop-a : goal.invariant-loop-a

@@ -3,7 +3,6 @@ use mathlib.Core.Path.{ap, ◌∙◌}
 use lib.ListN.{get_or}
 use Rattle.scratch.proofs.Numbers.{product_bound}
 use native.Mathlib.Omega.{arith}
-use borrow.Author.Rules.{rules}
 use Rattle.signatures.proofs.class_of.Goals as goal
 
 pub overflow_mul-q : goal.overflow_mul-q

@@ -1,9 +1,6 @@
-use Prim.Native.Nat.{ℕ, ◌-◌, ◌/◌, ◌≤◌, ◌<◌}
-use mathlib.Core.Path.{◌≡◌, sym, ap, ◌∙◌}
-use native.Mathlib.Numerals.{add-one}
-use Rattle.signatures.specs.Signatures.{mixed_at, mixed_to}
-use Rattle.signatures.proofs.Keys.{mixed_none, mixed_next}
-use native.Mathlib.Omega.{arith}
+use Prim.Native.Nat.{◌-◌, ◌≤◌, ◌<◌}
+use mathlib.Core.Path.{◌≡◌}
+use Rattle.signatures.specs.Signatures.{mixed_to}
 use Rattle.signatures.proofs.key_of.Given as goal
 
 abbrev pub invariant-loop-a : goal.invariant-loop-a

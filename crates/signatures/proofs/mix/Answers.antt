@@ -2,7 +2,6 @@ use Prim.Native.Nat.{ℕ, ◌+◌, ◌*◌, ◌%◌}
 use mathlib.Core.Path.{sym, ap, ◌∙◌}
 use Rattle.signatures.proofs.Keys.{mixed_idle, mixed_counted}
 use native.Mathlib.Omega.{arith}
-use borrow.Author.Rules.{rules}
 use Rattle.signatures.proofs.mix.Goals as goal
 
 pub returns-then-weight-ne1 : goal.returns-then-weight-ne1

@@ -1,7 +1,6 @@
 use mathlib.Core.Path.{sym, ◌∙◌}
 use mathlib.Core.Bool.{true≢false}
 use borrow.Author.Tests.{eqb-true, eqb-false}
-use borrow.Author.Rules.{rules}
 use Rattle.signatures.proofs.same_at.Goals as goal
 
 pub returns-then-weight-ne1 : goal.returns-then-weight-ne1

@@ -1,5 +1,4 @@
 use mathlib.Core.Path.{refl}
-use borrow.Author.Rules.{rules}
 use Rattle.splitting.specs.Places.{slot_of}
 use Rattle.splitting.proofs.Splitting.{slot_below}
 use Rattle.splitting.proofs.slot.Goals as goal

@@ -1,12 +1,5 @@
-use Prim.Native.Nat.{ℕ, ◌-◌, ◌*◌, ◌≤◌}
-use mathlib.Core.Path.{◌≡◌, subst}
-use mathlib.Core.Logic.{inr}
-use native.Mathlib.Omega.{arith}
-use borrow.Author.Rules.{rules}
-use Rattle.splitting.specs.Places.{nxt_at, Filled}
-use Rattle.splitting.proofs.Counts.{followers_few}
-use Rattle.splitting.proofs.Frames.{filled_clear}
-use Rattle.splitting.proofs.Splitting.{Splitting, splitting_start, splitting_hit, splitting_miss, turning, begun-room, begun_canon, split_done}
+use Prim.Native.Nat.{◌-◌, ◌≤◌}
+use Rattle.splitting.proofs.Splitting.{Splitting}
 use Rattle.splitting.proofs.split_all.Given as goal
 
 abbrev pub invariant-loop-i : goal.invariant-loop-i

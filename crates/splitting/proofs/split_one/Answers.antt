@@ -1,7 +1,6 @@
 use Prim.Native.Nat.{ℕ, ◌+◌, ◌*◌, ◌≤◌}
 use mathlib.Core.Path.{refl, sym, ap, ap₂, ◌∙◌}
 use native.Mathlib.Omega.{arith}
-use borrow.Author.Rules.{rules}
 use lib.ListN.{length-set}
 use Rattle.splitting.specs.Places.{key_at, slot_of, like}
 use Rattle.splitting.proofs.Turns.{Seen, entry_bound, turn_made, turn-foreign, turn-unlike, turn-found}

@@ -1,5 +1,4 @@
 use Rattle.walks.proofs.Following.{next_right}
-use borrow.Author.Rules.{rules}
 use Rattle.walks.proofs.next.Goals as goal
 
 pub returns : goal.returns

@@ -1,9 +1,6 @@
-use Prim.Native.Nat.{◌≤◌}
-use mathlib.Core.Path.{◌≡◌, refl, ◌∙◌}
-use lib.ListN.{length}
+use mathlib.Core.Path.{refl, ◌∙◌}
 use native.Mathlib.Omega.{arith}
-use borrow.Author.Rules.{rules}
-use Rattle.walks.proofs.Following.{next_most, Following, follow-first, follow-next, follow-end, follow-all}
+use Rattle.walks.proofs.Following.{next_most, follow-first, follow-next, follow-end, follow-all}
 use Rattle.walks.proofs.walk.Goals as goal
 
 pub loop-left-init : goal.loop-left-init

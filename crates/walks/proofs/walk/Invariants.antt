@@ -1,9 +1,7 @@
 use Prim.Native.Nat.{◌≤◌}
-use mathlib.Core.Path.{◌≡◌, refl, ◌∙◌}
+use mathlib.Core.Path.{◌≡◌}
 use lib.ListN.{length}
-use native.Mathlib.Omega.{arith}
-use borrow.Author.Rules.{rules}
-use Rattle.walks.proofs.Following.{next_most, Following, follow-first, follow-next, follow-end, follow-all}
+use Rattle.walks.proofs.Following.{Following}
 use Rattle.walks.proofs.walk.Given as goal
 
 abbrev pub invariant-loop-left : goal.invariant-loop-left

@@ -3,7 +3,6 @@ use Prim.Native.Nat.{ℕ, ◌*◌}
 use Rattle.pairs.proofs.Triangle.{needed-value}
 use Rattle.ways.specs.Ways.{need_of}
 use Rattle.ways.specs.declared.Way.{Way}
-use borrow.Author.Rules.{rules}
 use Rattle.ways.proofs.needed.Goals as goal
 
 pub returns-in-First : goal.returns-in-First

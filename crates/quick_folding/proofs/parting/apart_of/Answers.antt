@@ -5,7 +5,6 @@ use Rattle.quick_folding.specs.Parts.{list_at}
 use Rattle.quick_folding.specs.Parting.{noted_at}
 use Rattle.quick_folding.proofs.Losses.{apart-unreached, apart-folded, apart-kept}
 use native.Mathlib.Omega.{arith}
-use borrow.Author.Rules.{rules}
 use Rattle.quick_folding.proofs.parting.apart_of.Goals as goal
 
 pub returns-then-scratch-q-eq0 : goal.returns-then-scratch-q-eq0

@@ -2,7 +2,6 @@ use mathlib.Core.Path.{sym, ap, ◌∙◌}
 use Rattle.quick_folding.specs.Parts.{value_at}
 use Rattle.quick_folding.proofs.Losses.{loss-before, loss-none, loss-now}
 use native.Mathlib.Omega.{arith}
-use borrow.Author.Rules.{rules}
 use Rattle.quick_folding.proofs.parting.loss.Goals as goal
 
 pub returns-then-noted-ne0 : goal.returns-then-noted-ne0

@@ -1,4 +1,4 @@
-use Prim.Native.Nat.{ℕ, ◌-◌, ◌≤◌}
+use Prim.Native.Nat.{ℕ}
 use mathlib.Core.Path.{◌≡◌, subst, ◌∙◌}
 use Rattle.quick_folding.specs.Parts.{Valued}
 use Rattle.quick_folding.specs.Parting.{apart_at}

@@ -1,10 +1,6 @@
-use Prim.Native.Nat.{ℕ, ◌-◌, ◌≤◌}
-use mathlib.Core.Path.{◌≡◌, subst, ◌∙◌}
+use Prim.Native.Nat.{◌-◌, ◌≤◌}
 use Rattle.quick_folding.specs.Parts.{Valued}
 use Rattle.quick_folding.specs.Parting.{apart_at}
-use Rattle.quick_folding.proofs.Moves.{wrote_none, wrote_next, labels_still}
-use Rattle.quick_folding.proofs.Losses.{apart-still}
-use native.Mathlib.Omega.{arith}
 use Rattle.quick_folding.proofs.parting.name_apart.Given as goal
 
 abbrev pub invariant-loop-q : goal.invariant-loop-q

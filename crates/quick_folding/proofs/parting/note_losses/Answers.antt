@@ -1,4 +1,4 @@
-use Prim.Native.Nat.{ℕ, ◌-◌, ◌*◌, ◌≤◌}
+use Prim.Native.Nat.{ℕ, ◌*◌}
 use mathlib.Core.Path.{◌≡◌, subst}
 use Rattle.quick_folding.specs.Parts.{Wrote}
 use Rattle.quick_folding.specs.Parting.{loss_at}

@@ -1,10 +1,6 @@
-use Prim.Native.Nat.{ℕ, ◌-◌, ◌*◌, ◌≤◌}
-use mathlib.Core.Path.{◌≡◌, subst}
+use Prim.Native.Nat.{◌-◌, ◌*◌, ◌≤◌}
 use Rattle.quick_folding.specs.Parts.{Wrote}
 use Rattle.quick_folding.specs.Parting.{loss_at}
-use Rattle.quick_folding.proofs.Moves.{wrote_none, wrote_next}
-use Rattle.quick_folding.proofs.Losses.{noting_still, loss-still}
-use native.Mathlib.Omega.{arith}
 use Rattle.quick_folding.proofs.parting.note_losses.Given as goal
 
 abbrev pub invariant-loop-c : goal.invariant-loop-c

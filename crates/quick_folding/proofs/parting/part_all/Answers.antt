@@ -1,11 +1,5 @@
-use Prim.Native.Nat.{◌-◌, ◌≤◌}
-use mathlib.Core.Path.{◌≡◌, refl, ◌∙◌}
-use lib.ListN.{length}
-use Rattle.tables.specs.Table.{weight_by, machine, events_of}
-use Rattle.tables.specs.Reduction.{order}
+use mathlib.Core.Path.{refl, ◌∙◌}
 use Rattle.rules.specs.Rules.{table_of}
-use Rattle.quick_folding.specs.State.{Apart, Tabled}
-use Rattle.quick_folding.specs.Parting.{Parted}
 use Rattle.quick_folding.proofs.Entering.{shape, fits_still}
 use Rattle.quick_folding.proofs.Ending.{apart_none, apart_then, staying, stays_of}
 use Rattle.quick_folding.proofs.Losses.{taken, clear_apart, parted-first, parted_at, measured}

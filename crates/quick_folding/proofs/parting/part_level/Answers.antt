@@ -3,7 +3,6 @@ use Rattle.quick_folding.proofs.Entering.{shape}
 use Rattle.quick_folding.proofs.Losses.{before_more, noting, noted-apart, parted-next, parted-rest, kept_same, tabled-noted, parted_at}
 use Rattle.quick_folding.proofs.Tabling.{tabled_none, tells_none}
 use native.Mathlib.Omega.{arith}
-use borrow.Author.Rules.{rules}
 use Rattle.quick_folding.proofs.parting.part_level.Goals as goal
 
 pub overflow_add-level : goal.overflow_add-level
