@@ -1,5 +1,5 @@
 -- Answers as four numbers, for C: 0 and the values of success, or the number of the rule broken and the place; the others are 0.
-use Rattle.std.specs.Prelude.{cond, List, ◌∷◌, ℕ, ltb}
+use Rattle.std.specs.Prelude.{cond, List, [], ◌∷◌, ℕ, ltb}
 use Rattle.tables.specs.Table.{Offset, offset, none}
 use Rattle.rules.specs.declared.Verdict.{Verdict}
 use Rattle.rules.specs.declared.Verdict.TheVariants as check

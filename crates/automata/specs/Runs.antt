@@ -1,5 +1,5 @@
 -- Machines and runs: where a run leads, what it shows, and which rows no long run tells apart.
-use Rattle.std.specs.Prelude.{◌≡◌, List, ◌∷◌, ℕ, ◌+◌, ◌≤◌, ◌<◌}
+use Rattle.std.specs.Prelude.{◌≡◌, List, [], ◌∷◌, ℕ, ◌+◌, ◌≤◌, ◌<◌}
 
 -- The events are the numbers below `count`. Each adds its `weight`, 0 or 1, to the size of a run.
 pub record Events : Type 0 where

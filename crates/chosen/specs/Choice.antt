@@ -1,5 +1,5 @@
 -- "The last run that differs": the run that is chosen for two rows of finite distance above 0, and its first event.
-use Rattle.std.specs.Prelude.{◌≡◌, List, ◌∷◌, ◌⊎◌, cond, ℕ, zero, suc, ◌-◌, ◌≤◌, ◌<◌, eqb, length}
+use Rattle.std.specs.Prelude.{◌≡◌, List, [], ◌∷◌, ◌⊎◌, cond, ℕ, zero, suc, ◌-◌, ◌≤◌, ◌<◌, eqb, length}
 use Rattle.std.proofs.Math.Option.{Option, some, none}
 use Rattle.automata.specs.Runs.{Events, Machine, Run, size, after, Len, len, endless, IsDistance}
 use Rattle.tables.specs.Lengths.{distance}

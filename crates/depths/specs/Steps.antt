@@ -1,5 +1,5 @@
 -- What the steps of the search keep, and what they bring about. They work in a scratch that begins with the leads.
-use Rattle.std.specs.Prelude.{◌≡◌, Bool, true, false, cond, List, ◌∷◌, ◌⊎◌, ℕ, ◌+◌, ◌-◌, ◌*◌, ◌≤◌, ◌<◌, min, ltb, length, get_or, set}
+use Rattle.std.specs.Prelude.{◌≡◌, Bool, true, false, cond, List, [], ◌∷◌, ◌⊎◌, ℕ, ◌+◌, ◌-◌, ◌*◌, ◌≤◌, ◌<◌, min, ltb, length, get_or, set}
 use Rattle.automata.specs.Runs.{Events, Machine}
 use Rattle.automata.proofs.Runs.{Reach}
 use Rattle.tables.specs.Lists.{over}

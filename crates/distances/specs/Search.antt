@@ -1,5 +1,5 @@
 -- What the steps of the search ensure of scratch, level by level.
-use Rattle.std.specs.Prelude.{◌≡◌, Bool, true, false, cond, List, ◌∷◌, ◌⊎◌, ℕ, suc, ◌+◌, ◌-◌, ◌≤◌, ◌<◌, eqb, length, get_or, drop}
+use Rattle.std.specs.Prelude.{◌≡◌, Bool, true, false, cond, List, [], ◌∷◌, ◌⊎◌, ℕ, suc, ◌+◌, ◌-◌, ◌≤◌, ◌<◌, eqb, length, get_or, drop}
 use Rattle.automata.specs.Runs.{Events, Machine, Sound, Near}
 use Rattle.tables.specs.Table.{weight_by}
 use Rattle.pairs.specs.Pairs.{triangle, pair_at}

@@ -1,6 +1,6 @@
 -- Similarity, order and folding as they are found in the cells of a scratch s of n rows.
 -- Where s holds the distances and the leads of a machine, they are the machine's: proofs/Meaning.antt.
-use Rattle.std.specs.Prelude.{◌≡◌, Bool, cond, List, ◌∷◌, ℕ, ◌+◌, ◌≤◌, ◌<◌, eqb, length, get_or}
+use Rattle.std.specs.Prelude.{◌≡◌, Bool, cond, List, [], ◌∷◌, ℕ, ◌+◌, ◌≤◌, ◌<◌, eqb, length, get_or}
 use Rattle.automata.specs.Runs.{Events, Machine}
 use Rattle.tables.specs.Lists.{tabulate, filter, some, first, sift, over}
 use Rattle.tables.specs.Table.{Offset}

@@ -1,5 +1,5 @@
 -- "The follower": what it holds after beginning, after an event and after a run, and what it answers.
-use Rattle.std.specs.Prelude.{Bool, false, List, ◌∷◌, ◌++◌, ℕ, eqb, leb}
+use Rattle.std.specs.Prelude.{Bool, false, List, [], ◌∷◌, ◌++◌, ℕ, eqb, leb}
 use Rattle.tables.specs.Table.{Table, Offset, offset, none, mark_of}
 use Rattle.rules.specs.Rules.{judged, winch, row_rule, shape_checks}
 use Rattle.rules.specs.declared.Verdict.{Verdict}

@@ -1,5 +1,5 @@
 -- What an event checks, and what it makes of a follower's row and count.
-use Rattle.std.specs.Prelude.{List, ◌∷◌, ◌++◌, ℕ, ◌+◌, ◌*◌, min, leb}
+use Rattle.std.specs.Prelude.{List, [], ◌∷◌, ◌++◌, ℕ, ◌+◌, ◌*◌, min, leb}
 use Rattle.tables.specs.Table.{Table, target_of, weight_by}
 use Rattle.rules.specs.Rules.{rule, judged, winch, row_rule, mask_rule, shape_checks}
 use Rattle.rules.specs.declared.Verdict.{Verdict}

@@ -1,5 +1,5 @@
 -- What is judged of a table before its image is written, and what its writer answers.
-use Rattle.std.specs.Prelude.{List, ◌∷◌, ◌++◌, ℕ, ◌/◌, ltb, length, get_or}
+use Rattle.std.specs.Prelude.{List, [], ◌∷◌, ◌++◌, ℕ, ◌/◌, ltb, length, get_or}
 use Rattle.steps.specs.Steps.{step_of}
 use Rattle.tables.specs.Table.{Table}
 use Rattle.tables.specs.Lists.{tabulate, position}

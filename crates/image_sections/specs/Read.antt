@@ -1,5 +1,5 @@
 -- What an image is checked for, in order, and what it says.
-use Rattle.std.specs.Prelude.{Bool, true, false, not, List, ◌∷◌, ℕ, ◌+◌, ◌/◌, ◌%◌, eqb, leb, ltb, length, get_or}
+use Rattle.std.specs.Prelude.{Bool, true, false, not, List, [], ◌∷◌, ℕ, ◌+◌, ◌/◌, ◌%◌, eqb, leb, ltb, length, get_or}
 use Rattle.tables.specs.Lists.{position}
 use Rattle.rules.specs.Rules.{rule, judged, rows_rule, events_rule, row_rule, spare_rule}
 use Rattle.rules.specs.declared.Limits.{Limits}

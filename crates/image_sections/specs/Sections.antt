@@ -1,5 +1,5 @@
 -- What an image says, section by section as the code goes. proofs/Order.antt: it is what Read.antt says.
-use Rattle.std.specs.Prelude.{Bool, not, List, ◌∷◌, ℕ, ◌+◌, ◌*◌, ◌/◌, ◌%◌, eqb, get_or}
+use Rattle.std.specs.Prelude.{Bool, not, List, [], ◌∷◌, ℕ, ◌+◌, ◌*◌, ◌/◌, ◌%◌, eqb, get_or}
 use Rattle.tables.specs.Table.{mark_byte_count}
 use Rattle.rules.specs.Rules.{rule, judged, rows_rule, events_rule, row_rule, spare_rule}
 use Rattle.rules.specs.declared.Limits.{Limits}

@@ -1,5 +1,5 @@
 -- What the image writer checks, answers and leaves in the lent bytes.
-use Rattle.std.specs.Prelude.{List, ◌∷◌, ◌++◌, ℕ, length}
+use Rattle.std.specs.Prelude.{List, [], ◌∷◌, ◌++◌, ℕ, length}
 use Rattle.tables.specs.Table.{Table}
 use Rattle.tables.specs.Lists.{over}
 use Rattle.rules.specs.Rules.{judged, room_rule}

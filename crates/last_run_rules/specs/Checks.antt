@@ -1,5 +1,5 @@
 -- Which rules are judged before a row's last run is told, in which order, rule 18, and the answer.
-use Rattle.std.specs.Prelude.{List, ◌∷◌, ◌++◌, ℕ, ltb, length}
+use Rattle.std.specs.Prelude.{List, [], ◌∷◌, ◌++◌, ℕ, ltb, length}
 use Rattle.tables.specs.Table.{Table}
 use Rattle.rules.specs.Rules.{rule, judged, winch, row_rule, room_rule, mask_rule, shape_checks, content_checks}
 use Rattle.rules.specs.declared.Verdict.{Verdict}

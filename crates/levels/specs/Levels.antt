@@ -1,5 +1,5 @@
 -- At which offsets a row is kept: by its depth, and by its least distance from the rows before it in the order.
-use Rattle.std.specs.Prelude.{Bool, true, false, ◌&&◌, ◌||◌, cond, List, ◌∷◌, ℕ, zero, suc, ◌+◌, ◌*◌, ◌-◌, min, ltb, get_or, take}
+use Rattle.std.specs.Prelude.{Bool, true, false, ◌&&◌, ◌||◌, cond, List, [], ◌∷◌, ℕ, zero, suc, ◌+◌, ◌*◌, ◌-◌, min, ltb, get_or, take}
 use Rattle.automata.specs.Runs.{Events, Machine, Len, len, endless}
 use Rattle.tables.specs.Lengths.{distance, lead, depth, reached}
 use Rattle.tables.specs.Table.{Offset, offset, none}

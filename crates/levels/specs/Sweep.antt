@@ -1,5 +1,5 @@
 -- The sweep over the levels: the rows of the order taken so far, those kept among them, and what is known of them after each level.
-use Rattle.std.specs.Prelude.{◌≡◌, List, ◌++◌, ℕ, suc, ◌-◌, ◌≤◌, ◌<◌, length, get_or, take, drop}
+use Rattle.std.specs.Prelude.{◌≡◌, List, [], ◌++◌, ℕ, suc, ◌-◌, ◌≤◌, ◌<◌, length, get_or, take, drop}
 use Rattle.automata.specs.Runs.{Events, Machine, Near}
 use Rattle.tables.specs.Table.{offset}
 use Rattle.tables.specs.Lists.{sift}

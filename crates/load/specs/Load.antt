@@ -1,5 +1,5 @@
 -- "A stated load for the bench": the table that is drawn from a seed, and what the generator promises.
-use Rattle.std.specs.Prelude.{◌≡◌, cond, List, ◌∷◌, ℕ, ◌+◌, ◌-◌, ◌*◌, ◌/◌, ◌%◌, eqb, ltb}
+use Rattle.std.specs.Prelude.{◌≡◌, cond, List, [], ◌∷◌, ℕ, ◌+◌, ◌-◌, ◌*◌, ◌/◌, ◌%◌, eqb, ltb}
 use Rattle.xorshift.specs.Xorshift.{draw}
 use Rattle.tables.specs.Lists.{tabulate}
 use Rattle.tables.specs.Table.{Table, Valid, mark_byte_count, pack}

@@ -1,5 +1,5 @@
 -- The lines of folded rows, as the cells of scratch tell them.
-use Rattle.std.specs.Prelude.{cond, List, ℕ, eqb}
+use Rattle.std.specs.Prelude.{cond, List, [], ℕ, eqb}
 use Rattle.losses.specs.Losses.{into_at, loss_to}
 use Rattle.loss_text.specs.LossText.{loss_line}
 

@@ -1,5 +1,5 @@
 -- What `given_up` prints for the bytes that it reads.
-use Rattle.std.specs.Prelude.{List, ℕ}
+use Rattle.std.specs.Prelude.{List, [], ℕ}
 use Rattle.tables.specs.Table.{Table, Offset, machine, events_of, weight_by}
 use Rattle.tables.specs.Reduction.{Fate, kept_as, folded_into, unreached, fate_of}
 use Rattle.chosen.specs.GivenUp.{Loss, given_up}

@@ -1,5 +1,5 @@
 -- How far the search has come, in the cells of scratch.
-use Rattle.std.specs.Prelude.{◌≡◌, cond, List, ◌⊎◌, ℕ, suc, ◌+◌, ◌*◌, ◌≤◌, ◌<◌, eqb, length, get_or}
+use Rattle.std.specs.Prelude.{◌≡◌, cond, List, ◌⊎◌, ℕ, suc, ◌+◌, ◌-◌, ◌*◌, ◌≤◌, ◌<◌, eqb, length, get_or}
 use Rattle.automata.specs.Runs.{Events, Machine, Sound}
 use Rattle.scratch.specs.Scratch.{machine_by}
 use Rattle.rules.specs.Rules.{table_of}

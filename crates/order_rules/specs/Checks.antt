@@ -1,5 +1,5 @@
 -- Which rules are judged before two tables are put in order, in which order, and the answer.
-use Rattle.std.specs.Prelude.{◌≡◌, not, List, ◌∷◌, ◌++◌, ℕ, ◌*◌, ◌≤◌, eqb}
+use Rattle.std.specs.Prelude.{◌≡◌, not, List, [], ◌∷◌, ◌++◌, ℕ, ◌*◌, ◌≤◌, eqb}
 use Rattle.tables.specs.Table.{Table, Valid}
 use Rattle.rules.specs.Rules.{rule, judged, winch, room_rule, table_checks}
 use Rattle.rules.specs.declared.Verdict.{Verdict}

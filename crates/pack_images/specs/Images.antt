@@ -1,5 +1,5 @@
 -- What stands in the images of a pack.
-use Rattle.std.specs.Prelude.{false, cond, List, ◌∷◌, ℕ, zero, suc, eqb, ltb, length, drop}
+use Rattle.std.specs.Prelude.{false, cond, List, [], ◌∷◌, ℕ, zero, suc, eqb, ltb, length, drop}
 use Rattle.tables.specs.Table.{Table}
 use Rattle.rules.specs.Rules.{rule, winch}
 use Rattle.rules.specs.declared.Verdict.{Verdict}

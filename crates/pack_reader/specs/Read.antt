@@ -1,5 +1,5 @@
 -- What the pack reader checks, answers and leaves in the lent list, cells and mark bytes.
-use Rattle.std.specs.Prelude.{◌||◌, List, ◌∷◌, ℕ, ◌*◌, ltb, length, drop}
+use Rattle.std.specs.Prelude.{◌||◌, List, [], ◌∷◌, ℕ, ◌*◌, ltb, length, drop}
 use Rattle.tables.specs.Table.{Table}
 use Rattle.tables.specs.Lists.{over}
 use Rattle.rules.specs.Rules.{rule, judged}

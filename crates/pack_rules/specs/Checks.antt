@@ -1,5 +1,5 @@
 -- What is judged of a pack's tables, and in which order.
-use Rattle.std.specs.Prelude.{not, ◌||◌, List, ◌∷◌, ◌++◌, ℕ, ◌/◌, ◌%◌, eqb, length}
+use Rattle.std.specs.Prelude.{not, ◌||◌, List, [], ◌∷◌, ◌++◌, ℕ, ◌/◌, ◌%◌, eqb, length}
 use Rattle.tables.specs.Table.{Table}
 use Rattle.rules.specs.Rules.{rule, winch, rows_rule, events_rule, row_rule, room_rule, content_checks}
 use Rattle.rules.specs.declared.Verdict.{Verdict}

@@ -1,5 +1,5 @@
 -- "Packs sent by radio": tables one after another in lent buffers, and the bytes of a pack.
-use Rattle.std.specs.Prelude.{List, ◌∷◌, ◌++◌, ℕ, ◌+◌, ◌*◌, length, take, drop}
+use Rattle.std.specs.Prelude.{List, [], ◌∷◌, ◌++◌, ℕ, ◌+◌, ◌*◌, length, take, drop}
 use Rattle.tables.specs.Table.{Table, Valid, mark_byte_count}
 use Rattle.rules.specs.Rules.{rule, outside, table_of}
 use Rattle.rules.specs.declared.Verdict.{Verdict}

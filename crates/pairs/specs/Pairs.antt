@@ -1,5 +1,5 @@
 -- What stands where in scratch for all pairs of rows: "rows × (rows − 1) / 2 + 4 × rows 16-bit cells".
-use Rattle.std.specs.Prelude.{Bool, cond, List, ◌++◌, ℕ, zero, suc, ◌+◌, ◌*◌, ltb, get_or, take, drop}
+use Rattle.std.specs.Prelude.{Bool, cond, List, [], ◌++◌, ℕ, zero, suc, ◌+◌, ◌*◌, ltb, get_or, take, drop}
 use Rattle.tables.specs.Lists.{tabulate}
 use Rattle.tables.specs.Table.{Table}
 use Rattle.scratch.specs.Scratch.{workable_in}

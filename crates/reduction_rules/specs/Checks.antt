@@ -1,5 +1,5 @@
 -- Which rules are judged before a table is reduced, in which order, and the answer.
-use Rattle.std.specs.Prelude.{List, ◌∷◌, ◌++◌, ℕ, ◌*◌}
+use Rattle.std.specs.Prelude.{List, [], ◌∷◌, ◌++◌, ℕ, ◌*◌}
 use Rattle.tables.specs.Table.{Table, mark_byte_count}
 use Rattle.rules.specs.Rules.{judged, winch, room_rule, masked_checks}
 use Rattle.rules.specs.declared.Verdict.{Verdict}

@@ -1,5 +1,5 @@
 -- "Refused, and on what": each rule as a test with its number and place, and the checks of a table in their order.
-use Rattle.std.specs.Prelude.{Bool, true, false, not, ◌||◌, List, ◌∷◌, ◌++◌, ℕ, ◌*◌, ◌/◌, eqb, leb, ltb, length, get_or}
+use Rattle.std.specs.Prelude.{Bool, true, false, not, ◌||◌, List, [], ◌∷◌, ◌++◌, ℕ, ◌*◌, ◌/◌, eqb, leb, ltb, length, get_or}
 use Rattle.tables.specs.Table.{Table, Offset, offset, none, mark_byte_count}
 use Rattle.tables.specs.Lists.{position, over}
 use Rattle.marks.specs.Marks.{spare_bits_set}

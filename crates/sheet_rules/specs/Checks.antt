@@ -1,5 +1,5 @@
 -- Which rules are judged before a sheet is made, in which order.
-use Rattle.std.specs.Prelude.{List, ◌∷◌, ◌++◌, ℕ, ◌+◌, ◌*◌, ltb}
+use Rattle.std.specs.Prelude.{List, [], ◌∷◌, ◌++◌, ℕ, ◌+◌, ◌*◌, ltb}
 use Rattle.tables.specs.Table.{Table}
 use Rattle.rules.specs.Rules.{rule, judged, winch, room_rule, masked_checks}
 use Rattle.rules.specs.declared.Verdict.{Verdict}

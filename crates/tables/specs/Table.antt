@@ -1,5 +1,5 @@
 -- "The parts and what they hold": a table as it is stored, and the machine that it describes.
-use Rattle.std.specs.Prelude.{◌≡◌, List, ◌∷◌, ℕ, ◌+◌, ◌*◌, ◌/◌, ◌%◌, ◌^◌, ◌≤◌, ◌<◌, length, get_or, take, drop}
+use Rattle.std.specs.Prelude.{◌≡◌, List, [], ◌∷◌, ℕ, ◌+◌, ◌*◌, ◌/◌, ◌%◌, ◌^◌, ◌≤◌, ◌<◌, length, get_or, take, drop}
 use Rattle.automata.specs.Runs.{Events, Machine, AgreeFrom}
 use Rattle.tables.specs.Lists.{tabulate}
 

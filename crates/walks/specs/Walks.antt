@@ -1,5 +1,5 @@
 -- The run that the cells of scratch tell of two rows, event by event.
-use Rattle.std.specs.Prelude.{cond, List, ◌∷◌, ℕ, zero, suc, ◌+◌, ◌*◌, eqb, get_or}
+use Rattle.std.specs.Prelude.{cond, List, [], ◌∷◌, ℕ, zero, suc, ◌+◌, ◌*◌, eqb, get_or}
 use Rattle.chosen.specs.declared.First.{First}
 use Rattle.chosen.specs.declared.First.TheVariants.{Unsettled, End, Event}
 use Rattle.pairs.specs.Pairs.{pair_at}
