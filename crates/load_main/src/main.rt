@@ -1,10 +1,14 @@
+#![tactic(auto)]
 // The largest tables, 1,024 rows of 32 events: as a chain, and drawn from a seed. What is printed is the new row count of each, and of its
 // sheet the number of entries, the first one, those of offsets 1,022 and 1,023, and the last. Lines are put into one buffer.
+ghost use Rattle.std.specs.Prelude.{◌≡◌, length};
+
 use lines::put_refusal;
 use offsets::Listed;
 use printing::put_line;
 use reduction_rules::Answer;
 use rules::Offset;
+use std::io;
 
 // Every event counts.
 const ALL: u32 = 4294967295;
@@ -19,18 +23,23 @@ fn row_after(row: usize) -> u16 {
 
 // Every event of 32 leads to the row after.
 fn fill_chain(cells: &mut [u16]) {
-    let mut c = 0;
-    while c < cells.len() {
-        cells[c] = row_after(c / 32);
-        c += 1;
+    for (c, cell) in cells.iter_mut().enumerate() {
+        *cell = row_after(c / 32);
     }
+}
+
+// An array of zeros. A call has its length from the clause, so that no proof counts up to a large one.
+fn zeros<const N: usize>() -> [u16; N]
+    ensures { N ≡ length result }
+{
+    [0; N]
 }
 
 // Reduces a table of 1,024 rows and 32 events.
 fn reduce(offset: Offset, cells: &[u16], marks: &[u8]) -> Answer {
     let mut newcells = [0u16; 32768];
     let mut newmarks = [0u8; 128];
-    let mut scratch = [0u16; 527872];
+    let mut scratch = zeros::<527872>();
     reduction::reduce_table(
         ways::Way::First,
         offset,
@@ -56,7 +65,7 @@ fn put_reduced(out: &mut [u8], at: usize, name: &[u8], answer: Answer) -> usize 
 
 // Lists the fewest rows of a table of 1,024 rows and 32 events at every offset.
 fn sheet(cells: &[u16], marks: &[u8], list: &mut [u16]) -> Listed {
-    let mut scratch = [0u16; 527872];
+    let mut scratch = zeros::<527872>();
     offsets::write_sheet(ALL, 1024, 32, 0, cells, marks, list, &mut scratch)
 }
 
@@ -85,8 +94,8 @@ fn put_listed(out: &mut [u8], at: usize, name: &[u8], answer: Listed, list: &[u1
 }
 
 // Each table is reduced and then put on a sheet.
-fn main() {
-    let mut out = io::large_buffer();
+fn main(rt: HostRuntime) -> io::Result<()> {
+    let mut out = [0u8; 65536];
     let mut list = [0u16; 2049];
     let mut cells = [0u16; 32768];
     let mut marks = [0u8; 128];
@@ -101,5 +110,6 @@ fn main() {
     n = put_reduced(&mut out, n, b"drawn", drawn);
     let listed = sheet(&cells, &marks, &mut list);
     n = put_listed(&mut out, n, b"drawn sheet", listed, &list);
-    printing::print(&out, n);
+    printing::print(&mut rt.stdout(), &out, n)?;
+    Ok(())
 }
