@@ -1,6 +1,6 @@
 -- Some chosen runs, and what the rows of document 01's tables to try give up, computed.
 use mathlib.Core.Path.{◌≡◌, refl}
-use mathlib.Core.List.{List, ◌∷◌}
+use mathlib.Core.List.{List, [], ◌∷◌}
 use mathlib.Core.Option.{Option, some as given, none as absent}
 use Prim.Native.Nat.{ℕ}
 use Rattle.automata.specs.Nearness.{every, rounds, near}

@@ -1,7 +1,7 @@
 -- First events found in rounds over the length of the chosen run in all its events. A round gives an unsettled pair the lowest event that leads to a
 -- pair settled before the round at the distance less the event's weight. When a round settles nothing, every pair is settled.
 use mathlib.Core.Path.{◌≡◌, refl, sym, ap, subst, ◌∙◌}
-use mathlib.Core.List.{List, ◌∷◌}
+use mathlib.Core.List.{List, [], ◌∷◌}
 use mathlib.Core.Logic.{◌⊎◌, inl, inr}
 use Prim.Native.Nat.{ℕ, suc, ◌+◌, ◌-◌, ◌≤◌, ◌<◌}
 use native.Mathlib.Omega.{arith}

@@ -1,6 +1,6 @@
 -- The input that document 01 gives for A0, with the mask of document 02 behind the offset, and the text that they say `reduce` prints for it, computed from the definitions.
 use mathlib.Core.Path.{◌≡◌, refl}
-use mathlib.Core.List.{List, ◌∷◌}
+use mathlib.Core.List.{List, [], ◌∷◌}
 use Prim.Native.Nat.{ℕ}
 use Rattle.automata.specs.Nearness.{every, rounds, near}
 use Rattle.tables.specs.Lists.{tabulate, filter, some, first, position, sift}

@@ -1,6 +1,6 @@
 -- A listing as document 01 prints it, computed from the definitions.
 use mathlib.Core.Path.{◌≡◌, refl}
-use mathlib.Core.List.{◌∷◌}
+use mathlib.Core.List.{[], ◌∷◌}
 use Rattle.records.specs.declared.Record.{Record}
 use Rattle.records.specs.declared.Depth.{Depth}
 use Rattle.records.specs.declared.Depth.TheVariants.{Number, Endless}

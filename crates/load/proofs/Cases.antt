@@ -1,6 +1,6 @@
 -- A small table.
 use mathlib.Core.Path.{◌≡◌, refl}
-use mathlib.Core.List.{◌∷◌}
+use mathlib.Core.List.{[], ◌∷◌}
 use Rattle.xorshift.specs.Xorshift.{step, state}
 use Rattle.tables.specs.Lists.{tabulate}
 use Rattle.tables.specs.Table.{digits, pack}

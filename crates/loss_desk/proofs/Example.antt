@@ -1,6 +1,6 @@
 -- What `given_up` prints for document 01's table C at offset 2, computed from the definitions.
 use mathlib.Core.Path.{◌≡◌, refl}
-use mathlib.Core.List.{List, ◌∷◌}
+use mathlib.Core.List.{List, [], ◌∷◌}
 use Prim.Native.Nat.{ℕ}
 use Rattle.automata.specs.Nearness.{every, rounds, near}
 use Rattle.tables.specs.Lists.{tabulate, filter, some, first, position, sift}

@@ -1,6 +1,6 @@
 -- A line with a run and one with none, computed from the definitions.
 use mathlib.Core.Path.{◌≡◌, refl}
-use mathlib.Core.List.{◌∷◌}
+use mathlib.Core.List.{[], ◌∷◌}
 use Rattle.text.specs.Text.{text, decimal_in, decimal, joined}
 use Rattle.loss_text.specs.LossText.{event_word, loss_line}
 

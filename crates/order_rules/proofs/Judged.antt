@@ -1,6 +1,6 @@
 -- The rules in their order, as the code makes them, and what it means that none is broken.
 use mathlib.Core.Path.{◌≡◌, sym}
-use mathlib.Core.List.{List, ◌++◌}
+use mathlib.Core.List.{List, [], ◌++◌}
 use Prim.Native.Nat.{ℕ, ◌≤◌, ◌<◌}
 use borrow.Author.Tests.{eq-eqb, ne_eqb, eqb-true, not-false, ltb-false}
 use lib.ListN.{get_or}

@@ -1,6 +1,6 @@
 -- A few orders, computed.
 use mathlib.Core.Path.{◌≡◌, refl}
-use mathlib.Core.List.{List, ◌∷◌}
+use mathlib.Core.List.{List, [], ◌∷◌}
 use Prim.Native.Nat.{ℕ}
 use Rattle.tables.specs.Table.{Table}
 use Rattle.ordering.specs.Order.{by_marks, first_told, compared_at, compared_rows, comparison}

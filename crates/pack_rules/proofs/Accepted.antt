@@ -1,7 +1,7 @@
 -- What the checks of a pack come to.
 use mathlib.Core.Path.{◌≡◌, sym, ap, ◌∙◌}
 use mathlib.Core.Bool.{not, ◌||◌}
-use mathlib.Core.List.{List, ◌∷◌, ◌++◌, append_assoc}
+use mathlib.Core.List.{List, [], ◌∷◌, ◌++◌, append_assoc}
 use Prim.Native.Nat.{ℕ, ◌/◌, ◌%◌, ◌≤◌}
 use borrow.Author.Tests.{eqb-true, eq-eqb, not-false, ltb-false}
 use lib.Dec.{eqb}

@@ -1,6 +1,6 @@
 -- The image of document 01's table A behind a mask that counts its one event, and what `sheet` prints for it, computed from the definitions.
 use mathlib.Core.Path.{◌≡◌, refl}
-use mathlib.Core.List.{List, ◌∷◌}
+use mathlib.Core.List.{List, [], ◌∷◌}
 use Prim.Native.Nat.{ℕ}
 use Rattle.automata.specs.Nearness.{every, rounds, near}
 use Rattle.tables.specs.Lists.{tabulate, filter, some, first, position, sift}

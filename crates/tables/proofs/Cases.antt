@@ -1,6 +1,6 @@
 -- Document 01's "Tables to try", the ten bold cases, and document 02's case of idle events (#104) as one table, and what computing the definitions says of them.
 use mathlib.Core.Path.{◌≡◌, refl}
-use mathlib.Core.List.{List, ◌∷◌}
+use mathlib.Core.List.{List, [], ◌∷◌}
 use mathlib.Core.Option.{Option, some as stated, none as unstated}
 use Prim.Native.Nat.{ℕ, zero, suc, ◌*◌, ◌<◌}
 use native.Mathlib.Omega.{arith}

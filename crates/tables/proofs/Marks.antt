@@ -1,6 +1,6 @@
 -- Packed marks: what `pack` writes, `mark_of` reads back.
 use mathlib.Core.Path.{◌≡◌, sym, ap, ◌∙◌}
-use mathlib.Core.List.{List, ◌∷◌}
+use mathlib.Core.List.{List, [], ◌∷◌}
 use Prim.Native.Nat.{ℕ, zero, suc, ◌+◌, ◌*◌, ◌/◌, ◌%◌, ◌^◌, ◌≤◌, ◌<◌}
 use native.Mathlib.Nat.{zero-add, mul-le-mul_left, zero-div, zero-mod, div-one, div-eq_of_lt, mod-eq_of_lt, add-mul-div_left, add-mul-mod_self_left, div-div-eq-div-mul, div-add-mod, pow-zero, pow-succ', lt_of_lt_of_le}
 use native.Mathlib.Omega.{arith}

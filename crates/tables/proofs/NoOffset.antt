@@ -1,7 +1,7 @@
 -- An offset of twice the rows or more yields the same table and records as none.
 use mathlib.Core.Path.{◌≡◌, ap, ap₂, fun_ext}
 use mathlib.Core.Bool.{Bool}
-use mathlib.Core.List.{List}
+use mathlib.Core.List.{List, []}
 use Prim.Native.Nat.{ℕ, ◌*◌, ◌≤◌, ◌<◌}
 use Rattle.automata.specs.Runs.{Events, Machine}
 use Rattle.tables.specs.Table.{Table, machine, events_of, offset, none}

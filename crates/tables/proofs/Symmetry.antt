@@ -1,6 +1,6 @@
 -- Distance does not mind the order of two rows, is 0 of a row and itself, and does not look at the start.
 use mathlib.Core.Path.{◌≡◌, refl, sym, ap, ◌∙◌}
-use mathlib.Core.List.{List, ◌∷◌}
+use mathlib.Core.List.{List, [], ◌∷◌}
 use Prim.Native.Nat.{ℕ, ◌<◌}
 use native.Mathlib.Omega.{arith}
 use Rattle.automata.specs.Runs.{Events, Machine, Sound, Light, after, Near, Len, len, endless, IsDistance}

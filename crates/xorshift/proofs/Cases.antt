@@ -1,6 +1,6 @@
 -- The first draws of seed 1, and one step back.
 use mathlib.Core.Path.{◌≡◌, refl}
-use mathlib.Core.List.{◌∷◌}
+use mathlib.Core.List.{[], ◌∷◌}
 use Rattle.xorshift.specs.Xorshift.{step, state, draw}
 use Rattle.xorshift.specs.Back.{left_back, right_back, step_back}
 

@@ -1,5 +1,6 @@
 use Prim.Native.Nat.{◌<◌}
 use mathlib.Core.Path.{ap, ap₂, sym, ◌∙◌}
+use mathlib.Core.List.{[]}
 use native.Mathlib.Omega.{arith}
 use lib.Dec.{eqb}
 use Rattle.splitting.specs.Places.{nxt_at}

@@ -1,4 +1,4 @@
-use mathlib.Core.List.{◌∷◌}
+use mathlib.Core.List.{[], ◌∷◌}
 use native.Mathlib.Omega.{arith}
 use Rattle.rules.specs.Rules.{table_of, room_rule, mask_rule}
 use Rattle.rules.proofs.First.{table-refused, table-then, few_rows}

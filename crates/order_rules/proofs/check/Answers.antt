@@ -1,3 +1,4 @@
+use mathlib.Core.List.{[]}
 use Rattle.rules.specs.Rules.{table_of}
 use Rattle.rules.proofs.First.{few_rows}
 use Rattle.order_rules.proofs.Judged.{first-refused, first_fine}

@@ -1,3 +1,4 @@
+use mathlib.Core.List.{[]}
 use Rattle.quick_depths.proofs.Growth.{space_of, grows_then, grows_marked, grows_front}
 use Rattle.quick_depths.proofs.pass.Goals as goal
 

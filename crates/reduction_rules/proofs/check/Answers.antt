@@ -1,5 +1,5 @@
 use native.Mathlib.Omega.{arith}
-use mathlib.Core.List.{◌∷◌}
+use mathlib.Core.List.{[], ◌∷◌}
 use Rattle.rules.specs.Rules.{mask_rule, table_of}
 use Rattle.rules.proofs.First.{few_rows, few-events}
 use Rattle.ways.specs.Ways.{need_of}

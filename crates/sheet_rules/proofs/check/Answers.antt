@@ -1,5 +1,5 @@
 use native.Mathlib.Omega.{arith}
-use mathlib.Core.List.{◌∷◌}
+use mathlib.Core.List.{[], ◌∷◌}
 use Rattle.rules.specs.Rules.{mask_rule, table_of}
 use Rattle.rules.proofs.First.{few_rows}
 use Rattle.sheet_rules.proofs.Room.{verdict-refused, verdict-room}

@@ -1,5 +1,5 @@
 use native.Mathlib.Omega.{arith}
-use mathlib.Core.List.{◌∷◌}
+use mathlib.Core.List.{[], ◌∷◌}
 use Rattle.text.proofs.Buffer.{puts_byte, puts_out}
 use Rattle.text.proofs.put_byte.Goals as goal
 
