@@ -1,6 +1,6 @@
 #![tactic(auto)]
 // Input, for programs that read all of it into a buffer.
-ghost use Rattle.std.specs.Prelude.{true, Ok, ◌≡◌, ◌<◌, ◌≤◌, length, take, IfOk};
+ghost use Rattle.std.specs.Prelude.{true, false, Ok, IfSome, ◌≡◌, ◌<◌, ◌≤◌, length, take, IfOk};
 ghost use Rattle.std.specs.Io.KnownBytes.{Consumes, IsAtEnd};
 
 use std::io;
@@ -25,7 +25,8 @@ pub fn read_full<R: Read>(source: &mut R, buffer: &mut [u8]) -> io::Result<usize
 
 // Whether the input is at its end.
 fn at_end<R: Read>(source: &mut R) -> io::Result<bool>
-    ensures { IfOk result (λ ended. ended ≡ true → IsAtEnd (R.remaining source.new)) }
+    ensures end { IfOk result (λ ended. ended ≡ true → IsAtEnd (R.remaining source.new)) }
+    ensures more { IfOk result (λ ended. ended ≡ false → IfSome (R.remaining source.old) (λ xs. 0 < length xs)) }
 {
     let mut one = [0u8; 1];
     let n = source.read(&mut one)?;
@@ -36,6 +37,7 @@ fn at_end<R: Read>(source: &mut R) -> io::Result<bool>
 pub fn all_read<R: Read>(source: &mut R, n: usize, room: usize) -> io::Result<bool>
     ensures full { room ≤ n → result ≡ Ok true }
     ensures end { n < room → IfOk result (λ all. all ≡ true → IsAtEnd (R.remaining source.new)) }
+    ensures more { IfOk result (λ all. all ≡ false → IfSome (R.remaining source.old) (λ xs. 0 < length xs)) }
 {
     if n < room {
         return at_end(source);
