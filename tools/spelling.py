@@ -5,7 +5,7 @@ usage: python3 tools/spelling.py [FOLDER]
 
 The table beside this script, spelling.tsv, has a row for each name: the old one, a tab, the new one. Every whole name of
 specs/, proofs/, clauses and must-fail edits below FOLDER (default: the repository) is turned, and in the pages each name
-between backticks. It ran once, straight after the kit's own script; a second run changes nothing.
+between backticks. It ran once, straight after the kit's own script, and is not to run again: some new names are other names' old ones.
 """
 
 import glob

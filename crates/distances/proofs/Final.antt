@@ -16,7 +16,7 @@ use Rattle.pairs.proofs.Pairs.{pair_lift}
 use Rattle.distances.specs.Search.{Cells}
 use Rattle.distances.proofs.Fits.{fits-near, rest}
 
-module _ {E : Events} {M : Machine} (so : Sound E M) (z : Light E) (few : M.rows ≤ 1024) (level : ℕ) (s : List ℕ) (in-range : level < M.rows) (v : Cells E M (suc level) level s) where
+module _ {E : Events} {M : Machine} (so : Sound E M) (z : Light E) (few : M.rows ≤ 1024) (level : ℕ) (s : List ℕ) (in_range : level < M.rows) (v : Cells E M (suc level) level s) where
   values : (q p : ℕ) → q < M.rows → p < M.rows → (pair_at s q p ≤ level) ⊎ (pair_at s q p ≡ 65535)
   values = pair_lift (λ x y. (x ≤ level) ⊎ (x ≡ 65535)) M.rows s s (inl (omega arith)) v.values
 

@@ -17,7 +17,7 @@ module _ {E : Events} {M : Machine} where
   start s g z =
       record {
         given = g;
-        in-range = omega (arith, g.sound.start_inside);
+        in_range = omega (arith, g.sound.start_inside);
         cells =
             record {
               closed = λ q p hq hp h. absurd (omega arith);
@@ -35,7 +35,7 @@ module _ {E : Events} {M : Machine} where
     unfolding Change
     cell k h =
         ⊎_elim
-        (λ w. inl (omega (arith, b.above), low.kept k (omega (arith, b.in-range, b.given.few))))
+        (λ w. inl (omega (arith, b.above), low.kept k (omega (arith, b.in_range, b.given.few))))
         (λ w. inr (w, low.left k h w))
         (b.cells.values k h)
 
@@ -54,7 +54,7 @@ module _ {E : Events} {M : Machine} where
           targets = λ a l.
               ⊎_elim
               (λ u. omega (arith, u.1, f.targets a l))
-              (λ u. absurd (omega (arith, u.0, f.targets a l, b.in-range, b.given.few)))
+              (λ u. absurd (omega (arith, u.0, f.targets a l, b.in_range, b.given.few)))
               (pair (M.target q a) (M.target p a) (b.given.sound.target_inside q a hq l) (b.given.sound.target_inside p a hp l));
         })
         (λ w. absurd (omega arith))
@@ -67,7 +67,7 @@ module _ {E : Events} {M : Machine} where
         (λ e. ⊎_elim (λ w. omega arith) (λ w. omega arith) (pair q p hq hp))
         (λ g.
         let h = b.cells.none_above L q p (omega arith) hq hp n in
-        ⊎_elim (λ w. omega arith) (λ w. absurd (omega (arith, b.in-range, b.given.few))) (pair q p hq hp))
+        ⊎_elim (λ w. omega arith) (λ w. absurd (omega (arith, b.in_range, b.given.few))) (pair q p hq hp))
         (eq-or-lt_of_le l)
 
     pub lowered : Begun E M level t
@@ -75,6 +75,6 @@ module _ {E : Events} {M : Machine} where
     lowered =
         record {
           given = given_same b.given low.size;
-          in-range = b.in-range;
+          in_range = b.in_range;
           cells = record { closed = closed; none_above = none_above; values = λ k h. ⊎_elim (λ w. inl (omega arith)) (λ w. inl (omega arith)) (cell k h) };
         }

@@ -48,7 +48,7 @@ module _ {E : Events} {M : Machine} {level : ℕ} where
   turned-map m f = record { moved = m.moved; quiet = λ e. f (m.quiet e) }
 
   pub begun-moved : {s t : List ℕ} {r : Bool} → Begun E M level s → Moved E M level s t r → Begun E M level t
-  begun-moved b m = record { given = given_same b.given m.size; in-range = b.in-range; cells = m.cells }
+  begun-moved b m = record { given = given_same b.given m.size; in_range = b.in_range; cells = m.cells }
 
   -- ---- a store over the cell of a pair that does not fit
   module _ (s : List ℕ) (q p : ℕ) (b : Begun E M level s) (hq : q < M.rows) (hp : p < q) (e : get_or s (triangle q + p) 0 ≡ level)
@@ -92,7 +92,7 @@ module _ {E : Events} {M : Machine} {level : ℕ} where
               (λ k. absurd (omega (arith, k.1.0, f.targets a l)))
               (change (M.target x a) (M.target y a));
         })
-        (λ g. absurd (omega (arith, g.0, b.in-range, b.given.few)))
+        (λ g. absurd (omega (arith, g.0, b.in_range, b.given.few)))
         (change x y)
 
     after-values : (k : ℕ) → k < triangle M.rows → (get_or after k 0 ≤ level) ⊎ (get_or after k 0 ≡ 65535)
@@ -113,7 +113,7 @@ module _ {E : Events} {M : Machine} {level : ℕ} where
                 size = length-set s (triangle q + p) 65535;
                 rest = drop-set-lt (triangle M.rows) s (triangle q + p) 65535 (omega (arith, triangle-next q M.rows hq));
                 kept = λ z. absurd (true≢false z);
-                fewer = λ z. occurrences-set level s (triangle q + p) 65535 inside e (omega (arith, b.in-range, b.given.few));
+                fewer = λ z. occurrences-set level s (triangle q + p) 65535 inside e (omega (arith, b.in_range, b.given.few));
               };
           quiet = λ z. absurd (true≢false z);
         }

@@ -82,7 +82,7 @@ module _ {E : Events} {M : Machine} where
   -- s is scratch as it was lent, t with the first level settled, u as it is now.
   module _ {level : ℕ} {s t u : List ℕ} (g : Given E M s) (f : Settled E M 0 s t) (v : Rising E M level t u) where
     pub rising-ready : level < M.rows → Ready E M level u
-    rising-ready h = record { given = given_same g (v.size ∙ f.size); above = v.above; in-range = h; cells = v.cells }
+    rising-ready h = record { given = given_same g (v.size ∙ f.size); above = v.above; in_range = h; cells = v.cells }
 
     pub rising-next : {w : List ℕ} {r : Bool} → level < M.rows → Risen E M level u w r → Rising E M (level + 1) t w
     rising-next {w} h n =

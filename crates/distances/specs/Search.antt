@@ -34,7 +34,7 @@ module _ (E : Events) (M : Machine) where
   -- What a step of the search begins with.
   pub record Begun (level : ℕ) (s : List ℕ) : Type 0 where
     pub given : Given s
-    pub in-range : level < M.rows
+    pub in_range : level < M.rows
     pub cells : Cells level level s
 
   -- A step from s to t; r says whether it changed anything.
@@ -80,7 +80,7 @@ module _ (E : Events) (M : Machine) where
   pub record Ready (level : ℕ) (s : List ℕ) : Type 0 where
     pub given : Given s
     pub above : 0 < level
-    pub in-range : level < M.rows
+    pub in_range : level < M.rows
     pub cells : Cells level (level - 1) s
 
   -- The next level is settled, and r says whether a pair has it.

@@ -81,10 +81,10 @@ module _ {E : Events} {M : Machine} {s : List ℕ} (g : Given E M s) (z : Light 
       pick (len zero) e = subst (Fits (len 0)) (sym (r.stage.never q p hq hp (λ d h. len-one h e))) (omega arith)
       pick (len (suc d)) e =
           let so = g.sound in
-          let few = far-below so z g.few_rows g.few-events q p (suc d) e in
+          let few = far-below so z g.few_rows g.few_events q p (suc d) e in
           let x = chosen_exists so z hq hp (subst (IsDistance E M q p) e (distance_is so z hq hp)) (omega arith) in
           elim (dec_le (length x.0) l) [
-            | yes k ↦ subst (Fits (len (suc d))) (sym (r.stage.settled q p (suc d) x.0 hq hp e x.1 k)) (run_fits so z g.few_rows g.few-events q p (suc d) x.0 few x.1)
+            | yes k ↦ subst (Fits (len (suc d))) (sym (r.stage.settled q p (suc d) x.0 hq hp e x.1 k)) (run_fits so z g.few_rows g.few_events q p (suc d) x.0 few x.1)
             | no k ↦ subst (Fits (len (suc d))) (sym (r.stage.later q p (suc d) x.0 hq hp e x.1 (omega arith))) few
           ]
 

@@ -49,7 +49,7 @@ module _ {E : Events} {M : Machine} {s t : List ℕ} (g : Given E M s) (z : Ligh
   Known q p = ((AtEnd q p × (first_at t q p ≡ End)) ⊎ ((AtEnd q p → ⊥) × (first_at t q p ≡ Unsettled))) × (pair_at t q p ≡ cell_of (distance E M q p) (first_at t q p))
 
   alone_fits : (q p : ℕ) (x : Len) → distance E M q p ≡ x → Fits x Unsettled
-  alone_fits q p (len d) e = far-below g.sound z g.few_rows g.few-events q p d e
+  alone_fits q p (len d) e = far-below g.sound z g.few_rows g.few_events q p d e
   alone_fits q p endless e = tt
 
   known : (q p : ℕ) → q < M.rows → p < M.rows → Ended E M (pair_at s) q p (pair_at t q p) → Known q p

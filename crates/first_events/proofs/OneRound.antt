@@ -71,7 +71,7 @@ module _ {E : Events} {M : Machine} {s : List ℕ} (g : Given E M s) (z : Light 
 
     -- A pair that is settled stays so.
     known-stays : (q p : ℕ) → q < M.rows → p < M.rows → (first_at s q p ≡ Unsettled → ⊥) → pair_at t q p ≡ pair_at s q p
-    known-stays q p hq hp h = elim (sweeping-moved E M g.few-events w q p hq hp) [ inl e ↦ e | inr y ↦ absurd (h (low_first (pair_at s q p) (omega (arith, y.0)))) ]
+    known-stays q p hq hp h = elim (sweeping-moved E M g.few_events w q p hq hp) [ inl e ↦ e | inr y ↦ absurd (h (low_first (pair_at s q p) (omega (arith, y.0)))) ]
 
     -- No cell stood between 1,023 and 1,056.
     gap : (q p a : ℕ) → q < M.rows → p < M.rows → pair_at s q p ≡ 1024 + a → a < 32 → ⊥
@@ -146,7 +146,7 @@ module _ {E : Events} {M : Machine} {s : List ℕ} (g : Given E M s) (z : Light 
 
       settles-one : (q p d a : ℕ) → q < M.rows → p < M.rows → d < 1024 → distance E M q p ≡ len d → pair_at t q p ≡ 1024 + a → IsReady E M (distance E M) (first_at s) q p d a
           → Settled E M (pair_at t) q p (pair_at u q p) → pair_at u q p ≡ settled_at d a
-      settles-one q p d a hq hp h x c i (inl y) = absurd (elim y.0 [ inl k ↦ omega arith | inr k ↦ omega (arith, i.0, g.few-events) ])
+      settles-one q p d a hq hp h x c i (inl y) = absurd (elim y.0 [ inl k ↦ omega arith | inr k ↦ omega (arith, i.0, g.few_events) ])
       settles-one q p d a hq hp h x c i (inr y) =
           let n : y.0 ≡ a = omega (arith, y.1) in
           let e : (measure_in (led E M (pair_at t) q p a)).distance + E.weight a ≡ d = ap (λ (k : ℕ). (measure_in k).distance + E.weight a) (led-stays d q p a hq hp i) ∙ (ready-from g z r d q p a hq hp i).less in
@@ -169,7 +169,7 @@ module _ {E : Events} {M : Machine} {s : List ℕ} (g : Given E M s) (z : Light 
               (stayed q p hq hr (first_at u) f nothing, e ∙ r.cells q p hq hr ∙ ap (cell_of (distance E M q p)) (sym f))
           pick (takes d a x f h c y i low) =
               let e = settles-one q p d a hq hr h x y i turned in
-              let k = event-cell d a (above d a i) h (omega (arith, i.0, g.few-events)) in
+              let k = event-cell d a (above d a i) h (omega (arith, i.0, g.few_events)) in
               let b : first_at u q p ≡ Event a = ap (λ (n : ℕ). (measure_in n).first) e ∙ k.0 in
               (inr (inl (d, a, f, x, i, low, b)), e ∙ k.1 ∙ ap₂ cell_of (sym x) (sym b))
             where

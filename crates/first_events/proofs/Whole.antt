@@ -38,7 +38,7 @@ pub framed_then : {M : Machine} {s t u : List ℕ} → Framed M s t → Framed M
 framed_then a b = record { size = b.size ∙ a.size; rest = b.rest ∙ a.rest }
 
 pub given_framed : {E : Events} {M : Machine} {s t : List ℕ} → Given E M s → length t ≡ length s → Given E M t
-given_framed g f = record { sound = g.sound; few_rows = g.few_rows; few-events = g.few-events; room = omega (arith, f, g.room) }
+given_framed g f = record { sound = g.sound; few_rows = g.few_rows; few_events = g.few_events; room = omega (arith, f, g.room) }
 
 pub reached-at : {E : Events} {M : Machine} {s : List ℕ} {l n : ℕ} → l ≡ n → Reached E M l s → Reached E M n s
 reached-at {E} {M} {s} e r = subst (λ (n : ℕ). Reached E M n s) e r
@@ -47,7 +47,7 @@ module _ {E : Events} {M : Machine} {s : List ℕ} (g : Given E M s) (z : Light 
   -- ---- a round
   module _ {most : ℕ} (low : most < 1024) {t : List ℕ} {a : Bool} (x : Swept (Takes most) E M 0 (triangle M.rows) s t a) where
     taking : Sweeping (Takes most) E M (triangle M.rows) s t
-    taking = x.goes s g.sound g.room low (sweeping_begins E M g.few-events (Takes most) s)
+    taking = x.goes s g.sound g.room low (sweeping_begins E M g.few_events (Takes most) s)
 
     pub round-none : a ≡ false → Rounded E M most s t false
     round-none e = record {
@@ -58,7 +58,7 @@ module _ {E : Events} {M : Machine} {s : List ℕ} (g : Given E M s) (z : Light 
 
     module _ {u : List ℕ} {b : Bool} (y : Swept Settles E M 0 (triangle M.rows) t u b) where
       settling : (l : ℕ) → l + 2 ≤ most → Reached E M l s → Sweeping Settles E M (triangle M.rows) t u
-      settling l f r = y.goes t g.sound (omega (arith, g.room, x.size)) (before-settling g z r low f taking) (sweeping_begins E M g.few-events Settles t)
+      settling l f r = y.goes t g.sound (omega (arith, g.room, x.size)) (before-settling g z r low f taking) (sweeping_begins E M g.few_events Settles t)
 
       pub round-some : Rounded E M most s u true
       round-some = record {
@@ -77,7 +77,7 @@ module _ {E : Events} {M : Machine} {s : List ℕ} (g : Given E M s) (z : Light 
   -- ---- after the distances
   module _ (far : Distances E M s) {t : List ℕ} {a : Bool} (x : Swept Ends E M 0 (triangle M.rows) s t a) where
     ending : Sweeping Ends E M (triangle M.rows) s t
-    ending = x.goes s g.sound g.room tt (sweeping_begins E M g.few-events Ends s)
+    ending = x.goes s g.sound g.room tt (sweeping_begins E M g.few_events Ends s)
 
     pub ends-reached : Reached E M 0 t
     ends-reached = reached-first g z far ending
@@ -118,7 +118,7 @@ module _ (mask rows events start : ℕ) (cells marks s : List ℕ) where
         given = record {
           sound = sound₀;
           few_rows = shape.rows_fit;
-          few-events = shape.events_fit;
+          few_events = shape.events_fit;
           room = omega (arith, (workable-fine T (length s) passed).1, ap (λ (l : List ℕ). length l) found, measured-length mask T s);
         }
 

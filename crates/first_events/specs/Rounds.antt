@@ -22,7 +22,7 @@ module _ (E : Events) (M : Machine) where
   pub record Given (s : List ℕ) : Type 0 where
     pub sound : Sound E M
     pub few_rows : M.rows ≤ 1024
-    pub few-events : E.count ≤ 32
+    pub few_events : E.count ≤ 32
     pub room : triangle M.rows ≤ length s
 
   -- Each pair's cell holds its distance.

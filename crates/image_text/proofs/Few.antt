@@ -17,9 +17,9 @@ module _ (rows count : ℕ) (even : rule 9 (not (eqb (count % rows) 0)) 0 ≡ Fi
 
   module _ (sound : events_rule winch (count / rows) ≡ Fine) where
     -- at most 32,
-    pub few-events : count / rows ≤ 32
-    few-events = ((inside 32 (count / rows)).0 (unbroken 2 (outside 32 (count / rows)) 0 sound)).1
+    pub few_events : count / rows ≤ 32
+    few_events = ((inside 32 (count / rows)).0 (unbroken 2 (outside 32 (count / rows)) 0 sound)).1
 
     -- and so at most 4,096 in 128 rows.
     pub few-targets : rows ≤ 128 → count ≤ 4096
-    few-targets few = omega (arith, whole-rows, mul-le-mul few few-events)
+    few-targets few = omega (arith, whole-rows, mul-le-mul few few_events)

@@ -23,7 +23,7 @@ use Rattle.image_sections.specs.declared.Read.TheVariants as read
 use Rattle.text.proofs.Short.{Small}
 use Rattle.lines.proofs.Short.{refusal_short}
 use Rattle.image_text.specs.ImageText.{text_of, text_of_image}
-use Rattle.image_text.proofs.Few.{whole-rows, few-events, few-targets}
+use Rattle.image_text.proofs.Few.{whole-rows, few_events, few-targets}
 
 -- ---- a refusal
 
@@ -101,7 +101,7 @@ module _ (f : Table → List ℕ) (most : ℕ) (room : 20 ≤ most) (each : (T :
         let cells = (all_inside rows (cells_at Plain b (count / rows) (targets_at rows + 2) count) count (tabulate-length _ _)).0 (unbroken _ _ _ (at 9)) in
         each (table_in b rows (count / rows) start) record {
           few_rows = ltb-false 128 rows (unbroken _ _ _ (at 2));
-          events_few = few-events rows count (at 6) (at 7);
+          events_few = few_events rows count (at 6) (at 7);
           start_inside = leb-false rows start (unbroken _ _ _ (at 13));
           cells_in = λ i h. rw (whole-rows rows count (at 6)) (cells i (omega (arith, rw (whole-rows rows count (at 6), tabulate-length) at h)));
         }

@@ -111,7 +111,7 @@ module _ {E : Events} {M : Machine} (s : Sound E M) (z : Light E) (k : ℕ) wher
 
   -- Place i leads place j: it is the first whose row is near the row at place j at the level that this row needs.
   pub record Leader (i j : ℕ) : Type 0 where
-    pub no-later : i ≤ j
+    pub no_later : i ≤ j
     pub close : Near E M M (need_at E M k (row_at E M j)) (row_at E M j) (row_at E M i)
     pub none_before : (h : ℕ) → h < i → Near E M M (need_at E M k (row_at E M j)) (row_at E M j) (row_at E M h) → ⊥
 
@@ -120,7 +120,7 @@ module _ {E : Events} {M : Machine} (s : Sound E M) (z : Light E) (k : ℕ) wher
       let r = least-place (λ i. like (row_at E M j) (row_at E M i)) j (handed.self j h) in (
         r.0,
         record {
-          no-later = r.1;
+          no_later = r.1;
           close = at-near r.0 j r.1 h r.2;
           none_before = λ i g n. clash (at_similar i j (omega (arith, r.1)) h n) (r.3 i g);
         },
@@ -129,10 +129,10 @@ module _ {E : Events} {M : Machine} (s : Sound E M) (z : Light E) (k : ℕ) wher
   -- Its row is that into which the row at place j folds.
   pub leader_fold : (i j : ℕ) → j < length (order E M) → Leader i j → fold E M (offset k) (row_at E M j) ≡ row_at E M i
   leader_fold i j h l =
-      let b : i < suc j = omega (arith, l.no-later) in
+      let b : i < suc j = omega (arith, l.no_later) in
       fold_order j h
       ∙ first-at (like (row_at E M j)) (take (suc j) (order E M)) i (row_at E M j) 0 (omega (arith, length-take (suc j) (order E M)))
-      (ap (like (row_at E M j)) (get_or-take (suc j) (order E M) i 0 b) ∙ at_similar i j l.no-later h l.close)
+      (ap (like (row_at E M j)) (get_or-take (suc j) (order E M) i 0 b) ∙ at_similar i j l.no_later h l.close)
       (λ x g. ap (like (row_at E M j)) (get_or-take (suc j) (order E M) x 0 (omega arith))
       ∙ not_true (like (row_at E M j) (row_at E M x)) (λ t. l.none_before x g (at-near x j (omega arith) h t)))
       ∙ get_or-take (suc j) (order E M) i 0 b
@@ -142,7 +142,7 @@ module _ {E : Events} {M : Machine} (s : Sound E M) (z : Light E) (k : ℕ) wher
   kept_lone i j l h m n =
       let r = leader j h in
       let own = eqb-true (fold E M (offset k) (row_at E M j)) (row_at E M j) (sym (kept_own s z k (row_at E M j) (at_row E M j h) (at-reached E M j h)) ∙ mem_some (row_at E M j) (kept E M (offset k)) m) in
-      let e = one_place E M r.0 j (omega (arith, r.1.no-later)) h (sym (leader_fold r.0 j h r.1) ∙ own) in
+      let e = one_place E M r.0 j (omega (arith, r.1.no_later)) h (sym (leader_fold r.0 j h r.1) ∙ own) in
       r.1.none_before i (omega arith) n
 
   -- and before one that is not kept some row is.
@@ -152,7 +152,7 @@ module _ {E : Events} {M : Machine} (s : Sound E M) (z : Light E) (k : ℕ) wher
       elim (dec_lt r.0 j) [
         | yes l ↦ (r.0, l, r.1.close)
         | no l ↦
-            (let e : r.0 ≡ j = omega (arith, r.1.no-later) in
+            (let e : r.0 ≡ j = omega (arith, r.1.no_later) in
             let own = leader_fold r.0 j h r.1 ∙ ap (row_at E M) e in
             absurd (gone (some_mem (row_at E M j) (kept E M (offset k))
             (kept_own s z k (row_at E M j) (at_row E M j h) (at-reached E M j h) ∙ eq-eqb (fold E M (offset k) (row_at E M j)) (row_at E M j) own))))

@@ -47,7 +47,7 @@ module _ {E : Events} {M : Machine} (s : Sound E M) (z : Light E) where
       let own : r.0 ≡ j → ⊥ = λ e. ne (leader_fold s z 0 r.0 j h r.1 ∙ ap (row_at E M) e) in
       elim (dec_lt r.0 j) [
         | yes l ↦ apart-found s z r.0 j 0 l h (near_up (no_need E M (row_at E M j)) r.1.close)
-        | no l ↦ absurd (own (omega (arith, r.1.no-later)))
+        | no l ↦ absurd (own (omega (arith, r.1.no_later)))
       ]
 
   -- One that is kept is not.
@@ -107,14 +107,14 @@ module _ {E : Events} {M : Machine} (s : Sound E M) (z : Light E) where
             | yes f ↦ omega (
               arith,
               x.1,
-              r.1.no-later,
-              one_place E M r.0 p.0 (omega (arith, r.1.no-later)) p.2 (own ∙ ap (λ (y : ℕ). get_or (kept_to E M 0 all) y 0) f ∙ sym p.3),
+              r.1.no_later,
+              one_place E M r.0 p.0 (omega (arith, r.1.no_later)) p.2 (own ∙ ap (λ (y : ℕ). get_or (kept_to E M 0 all) y 0) f ∙ sym p.3),
             )
             | no f ↦ omega (
               arith,
               x.1,
-              r.1.no-later,
-              kept_ahead E M 0 all c d p.0 r.0 (omega arith) (labelled.inside x.0 hx) p.2 (omega (arith, r.1.no-later)) p.3 own,
+              r.1.no_later,
+              kept_ahead E M 0 all c d p.0 r.0 (omega arith) (labelled.inside x.0 hx) p.2 (omega (arith, r.1.no_later)) p.3 own,
             )
           ]
         ]

@@ -45,7 +45,7 @@ module _ {E : Events} {M : Machine} (s : Sound E M) (z : Light E) (k K i j : ℕ
         → Settled E M k (suc K) i j (λ c. nxt (v c))
     settled-signed low led-own led-near down leads signed lone =
         record {
-          no-later = λ c h. omega (arith, low c h, down (v c) (in-v c h));
+          no_later = λ c h. omega (arith, low c h, down (v c) (in-v c h));
           close = close;
           least = λ c x h l n.
               let hx : x < to = omega (arith, low c h, down (v c) (in-v c h)) in

@@ -50,7 +50,7 @@ module _ {E : Events} {M : Machine} (s : Sound E M) (z : Light E) (k : ℕ) wher
   kept_least i j c h hj hc e hh n =
       let r = leader s z k j hj in
       let p = kept_placed E M k i h (omega arith) in
-      let before = kept_ahead E M k i h c p.0 r.0 hh hc p.2 (omega (arith, r.1.no-later)) p.3 (sym (leader_fold s z k r.0 j hj r.1) ∙ sym e) in
+      let before = kept_ahead E M k i h c p.0 r.0 hh hc p.2 (omega (arith, r.1.no_later)) p.3 (sym (leader_fold s z k r.0 j hj r.1) ∙ sym e) in
       r.1.none_before p.0 before (near_cast refl (sym p.3) n)
 
   -- The first place of `listed` that is near the row at place j, at the level it needs, has the row into which it folds.
@@ -96,7 +96,7 @@ module _ {E : Events} {M : Machine} (s : Sound E M) (z : Light E) (k : ℕ) wher
     new-fold j uj je =
         let b : at j < length (listed E M k u e) = omega (arith, listed-length E M k u e ue fit) in
         let r : get_or (listed E M k u e) (at j) 0 ≡ row_at E M j = listed_new E M k u e j uj je in
-        listed_fold u e j (nxt (at j)) uj je fit (settled.no-later (at j) b)
+        listed_fold u e j (nxt (at j)) uj je fit (settled.no_later (at j) b)
         (rw (needs j uj je) (near_cast r refl (settled.close (at j) b)))
         (λ h g n. settled.least (at j) h b g (near_cast (sym r) refl (rw (needs j uj je) at n)))
 
@@ -113,7 +113,7 @@ module _ {E : Events} {M : Machine} (s : Sound E M) (z : Light E) (k : ℕ) wher
         leads-down : (nxt (at j) ≡ at j → ⊥) → nxt (at j) < at j
         leads-down ne = elim (dec_lt (nxt (at j)) (at j)) [
           | yes g ↦ g
-          | no g ↦ absurd (ne (omega (arith, settled.no-later (at j) (omega (arith, listed-length E M k u e ue fit)))))
+          | no g ↦ absurd (ne (omega (arith, settled.no_later (at j) (omega (arith, listed-length E M k u e ue fit)))))
         ]
 
     -- From the leaders of the first u rows at a level L to those of the first e at level K: an old row has its leader's leader,
@@ -134,7 +134,7 @@ module _ {E : Events} {M : Machine} (s : Sound E M) (z : Light E) (k : ℕ) wher
         least = λ j x h b n. elim (dec_lt j u) [
           | yes g ↦
               (let nx : x < nxt (val (row_at E M j)) = omega (arith, old j g) in
-              let bx : x < length (kept_to E M k u) = omega (arith, settled.no-later (val (row_at E M j)) (inside j g), led.inside j g) in
+              let bx : x < length (kept_to E M k u) = omega (arith, settled.no_later (val (row_at E M j)) (inside j g), led.inside j g) in
               settled.least (val (row_at E M j)) x (inside j g) nx
               (near_trans (near_cast (sym (here j g)) refl (near_sym (near_up up (led.close j g))))
               (near_cast refl ((kept_stays E M k u e x ue bx).1 ∙ sym (listed_old E M k u e x bx)) n)))
@@ -146,7 +146,7 @@ module _ {E : Events} {M : Machine} (s : Sound E M) (z : Light E) (k : ℕ) wher
           inside j g = omega (arith, led.inside j g, listed-length E M k u e ue fit)
 
           low : (j : ℕ) → j < u → nxt (val (row_at E M j)) < length (kept_to E M k u)
-          low j g = omega (arith, settled.no-later (val (row_at E M j)) (inside j g), led.inside j g)
+          low j g = omega (arith, settled.no_later (val (row_at E M j)) (inside j g), led.inside j g)
 
           old-in : (j : ℕ) → j < u → next (row_at E M j) < length (kept_to E M k e)
           old-in j g = omega (arith, old j g, (kept_stays E M k u e (nxt (val (row_at E M j))) ue (low j g)).0)

@@ -44,6 +44,6 @@ module _ (E : Events) (M : Machine) where
 
     -- `nxt` gives, for each place of `listed`, the first place whose row is near at level L.
     pub record Settled (L u e : ℕ) (nxt : ℕ → ℕ) : Type 0 where
-      pub no-later : (c : ℕ) → c < length (listed u e) → nxt c ≤ c
+      pub no_later : (c : ℕ) → c < length (listed u e) → nxt c ≤ c
       pub close : (c : ℕ) → c < length (listed u e) → Near E M M L (get_or (listed u e) c 0) (get_or (listed u e) (nxt c) 0)
       pub least : (c h : ℕ) → c < length (listed u e) → h < nxt c → Near E M M L (get_or (listed u e) c 0) (get_or (listed u e) h 0) → ⊥

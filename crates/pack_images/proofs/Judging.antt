@@ -61,8 +61,8 @@ module _ {whole : ℕ} {b : List ℕ} {count i at cells marks : ℕ} (j : Judgin
       pub few_rows : rows ≤ 1024
       few_rows = (front_sendable (drop at b) (drop_bytes at b bytes) rows events start e).0.rows_fit
 
-      pub few-events : events ≤ 32
-      few-events = (front_sendable (drop at b) (drop_bytes at b bytes) rows events start e).0.events_fit
+      pub few_events : events ≤ 32
+      few_events = (front_sendable (drop at b) (drop_bytes at b bytes) rows events start e).0.events_fit
 
       pub image-inside : at + length_of_image Radio rows events ≤ length b
       image-inside = omega (arith, front-whole (drop at b) (drop_bytes at b bytes) rows events start e, length-drop at b, j.at_in)

@@ -115,8 +115,8 @@ module _ {b : List ℕ} {count : ℕ} {list₀ cells₀ marks₀ : List ℕ} {i 
       pub few_rows : rows ≤ 1024
       few_rows = sent.0.rows_fit
 
-      pub few-events : events ≤ 32
-      few-events = sent.0.events_fit
+      pub few_events : events ≤ 32
+      few_events = sent.0.events_fit
 
       pub start_inside : start < rows
       start_inside = sent.0.start_inside

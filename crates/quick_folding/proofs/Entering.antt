@@ -219,7 +219,7 @@ module _ {T : Table} (mask : ℕ) {k L i j u : ℕ} {s : List ℕ} (f : Fits T k
             let x = Hand.settled-table h g in
             let z = listed_long in
             record {
-              no-later = λ c l. g.canon.down c (omega arith);
+              no_later = λ c l. g.canon.down c (omega arith);
               close = λ c l. near_cast (at_place c (omega arith)) (at_place (nxt_at n w c) (omega (arith, x.inside c (omega arith)))) (x.member c (omega arith));
               least = λ c y l p near.
                   let r = x.inside c (omega arith) in

@@ -43,8 +43,8 @@ module _ (T : Table) (m : List Verdict) {L : Limits} {v : Verdict} (l : L ≡ wi
     pub few_rows : T.rows ≤ 1024
     few_rows = table-shape.rows_fit
 
-    pub few-events : T.events ≤ 32
-    few-events = table-shape.events_fit
+    pub few_events : T.events ≤ 32
+    few_events = table-shape.events_fit
 
 -- What it tells that none of them is broken.
 module _ (T : Table) (more : List Verdict) (e : judged (table_checks winch T ++ more) ≡ Fine) where

@@ -4,10 +4,10 @@ use Rattle.first_events.proofs.Whole.{round-none, round-some}
 use Rattle.first_events.proofs.round.Goals as goal
 
 pub sweep-requires : goal.sweep-requires
-sweep-requires c = c.requires.given.few-events
+sweep-requires c = c.requires.given.few_events
 
 pub sweep-requires-then-sweep : goal.sweep-requires-then-sweep
-sweep-requires-then-sweep c = c.requires.given.few-events
+sweep-requires-then-sweep c = c.requires.given.few_events
 
 pub returns-then-sweep : goal.returns-then-sweep
 returns-then-sweep c = let a = c.args in

@@ -4,7 +4,7 @@ use Rattle.first_events.proofs.Whole.{given_framed, ends-reached, ends-then}
 use Rattle.first_events.proofs.search.Goals as goal
 
 pub sweep-requires : goal.sweep-requires
-sweep-requires c = c.requires.given.few-events
+sweep-requires c = c.requires.given.few_events
 
 pub rounds-requires : goal.rounds-requires
 rounds-requires c = let a = c.args in

@@ -3,7 +3,7 @@ use native.Mathlib.Numerals.{add-one}
 use Rattle.pack_images.specs.Judge.{refusal_in}
 use Rattle.tables.proofs.Over.{rest_is}
 use Rattle.pack_images.proofs.Walk.{front}
-use Rattle.pack_images.proofs.Judging.{judging_begin, judging-refused, few_rows, few-events, image-inside, judging-next, judging-more, judging-end}
+use Rattle.pack_images.proofs.Judging.{judging_begin, judging-refused, few_rows, few_events, image-inside, judging-next, judging-more, judging-end}
 use native.Mathlib.Omega.{arith}
 use Rattle.pack_images.proofs.judge.Goals as goal
 
@@ -27,7 +27,7 @@ pub overflow_cast-events : goal.overflow_cast-events
 overflow_cast-events c = let b = c.args.images.now in
     let l = c.loop-i in
     let e = sym (c.open_image-read.ensures ∙ ap front (rest_is b l.at)) ∙ c.in-Table.is in
-    record { fits = omega (arith, few-events l.invariant c.loop-i-test.true (λ i. omega (arith, (c.shared_slice_known-1.given i).fits)) _ _ _ e) }
+    record { fits = omega (arith, few_events l.invariant c.loop-i-test.true (λ i. omega (arith, (c.shared_slice_known-1.given i).fits)) _ _ _ e) }
 
 pub overflow_add-at : goal.overflow_add-at
 overflow_add-at c = let b = c.args.images.now in

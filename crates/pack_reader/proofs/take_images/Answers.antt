@@ -5,7 +5,7 @@ use Rattle.images.specs.Image.{cells_of, marks_of}
 use Rattle.images.specs.declared.Form.TheVariants.{Radio}
 use Rattle.image_sections.specs.declared.Read.{Read}
 use Rattle.pack_reader.specs.Walk.{part_from}
-use Rattle.pack_reader.proofs.Taking.{taking_begin, roomed-table, image-inside, list_room, cells_room, marks_room, few_rows, few-events, start_inside, taking-next, taking-never, taking_end}
+use Rattle.pack_reader.proofs.Taking.{taking_begin, roomed-table, image-inside, list_room, cells_room, marks_room, few_rows, few_events, start_inside, taking-next, taking-never, taking_end}
 use native.Mathlib.Omega.{arith}
 use Rattle.pack_reader.proofs.take_images.Goals as goal
 
@@ -31,13 +31,13 @@ returns-in_default c = taking-never c.loop-i.invariant (λ i. (c.shared_slice_kn
 
 pub put_entry-requires : goal.put_entry-requires
 put_entry-requires c = let few = few_rows c.loop-i.invariant (λ i. (c.shared_slice_known-1.given i).fits) c.loop-i-test.true _ _ _ (roomed-table _ _ _ _ _ _ (sym c.take_image-read.ensures.0 ∙ c.in-Table.is)) in
-    (list_room c.loop-i.invariant (λ i. (c.shared_slice_known-1.given i).fits) c.loop-i-test.true _ _ _ (roomed-table _ _ _ _ _ _ (sym c.take_image-read.ensures.0 ∙ c.in-Table.is)), omega (arith, few), omega (arith, few-events c.loop-i.invariant (λ i. (c.shared_slice_known-1.given i).fits) c.loop-i-test.true _ _ _ (roomed-table _ _ _ _ _ _ (sym c.take_image-read.ensures.0 ∙ c.in-Table.is))), omega (arith, few, start_inside c.loop-i.invariant (λ i. (c.shared_slice_known-1.given i).fits) c.loop-i-test.true _ _ _ (roomed-table _ _ _ _ _ _ (sym c.take_image-read.ensures.0 ∙ c.in-Table.is))))
+    (list_room c.loop-i.invariant (λ i. (c.shared_slice_known-1.given i).fits) c.loop-i-test.true _ _ _ (roomed-table _ _ _ _ _ _ (sym c.take_image-read.ensures.0 ∙ c.in-Table.is)), omega (arith, few), omega (arith, few_events c.loop-i.invariant (λ i. (c.shared_slice_known-1.given i).fits) c.loop-i-test.true _ _ _ (roomed-table _ _ _ _ _ _ (sym c.take_image-read.ensures.0 ∙ c.in-Table.is))), omega (arith, few, start_inside c.loop-i.invariant (λ i. (c.shared_slice_known-1.given i).fits) c.loop-i-test.true _ _ _ (roomed-table _ _ _ _ _ _ (sym c.take_image-read.ensures.0 ∙ c.in-Table.is))))
 
 pub overflow_cast-rows : goal.overflow_cast-rows
 overflow_cast-rows c = record { fits = omega (arith, few_rows c.loop-i.invariant (λ i. (c.shared_slice_known-1.given i).fits) c.loop-i-test.true _ _ _ (roomed-table _ _ _ _ _ _ (sym c.take_image-read.ensures.0 ∙ c.in-Table.is))) }
 
 pub overflow_cast-events : goal.overflow_cast-events
-overflow_cast-events c = record { fits = omega (arith, few-events c.loop-i.invariant (λ i. (c.shared_slice_known-1.given i).fits) c.loop-i-test.true _ _ _ (roomed-table _ _ _ _ _ _ (sym c.take_image-read.ensures.0 ∙ c.in-Table.is))) }
+overflow_cast-events c = record { fits = omega (arith, few_events c.loop-i.invariant (λ i. (c.shared_slice_known-1.given i).fits) c.loop-i-test.true _ _ _ (roomed-table _ _ _ _ _ _ (sym c.take_image-read.ensures.0 ∙ c.in-Table.is))) }
 
 pub overflow_add-at : goal.overflow_add-at
 overflow_add-at c = record { fits = omega (arith, c.image_length-at.ensures, image-inside c.loop-i.invariant (λ i. (c.shared_slice_known-1.given i).fits) c.loop-i-test.true _ _ _ (roomed-table _ _ _ _ _ _ (sym c.take_image-read.ensures.0 ∙ c.in-Table.is))) }

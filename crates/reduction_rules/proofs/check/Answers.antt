@@ -1,7 +1,7 @@
 use native.Mathlib.Omega.{arith}
 use mathlib.Core.List.{[], ◌∷◌}
 use Rattle.rules.specs.Rules.{mask_rule, table_of}
-use Rattle.rules.proofs.First.{few_rows, few-events}
+use Rattle.rules.proofs.First.{few_rows, few_events}
 use Rattle.ways.specs.Ways.{need_of}
 use Rattle.reduction_rules.proofs.Room.{verdict-refused, verdict-room}
 use Rattle.reduction_rules.proofs.check.Goals as goal
@@ -12,7 +12,7 @@ overflow_cast-rows c = let a = c.args in
 
 pub overflow_cast-events : goal.overflow_cast-events
 overflow_cast-events c = let a = c.args in
-    record { fits = omega (arith, few-events (table_of a.rows a.events a.start a.cells.now a.marks.now) (mask_rule a.mask a.events ∷ []) c.winch.ensures c.check_masked.ensures c.in-Fine.is) }
+    record { fits = omega (arith, few_events (table_of a.rows a.events a.start a.cells.now a.marks.now) (mask_rule a.mask a.events ∷ []) c.winch.ensures c.check_masked.ensures c.in-Fine.is) }
 
 pub returns-in-Refused : goal.returns-in-Refused
 returns-in-Refused c = let a = c.args in
