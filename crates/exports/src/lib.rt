@@ -1,5 +1,5 @@
 #![tactic(auto)]
-// The functions for programs in C or Rust: `rt staticlib exports`.
+// The functions for programs in C or Rust: `rt lib` here makes `out/libexports.a`.
 ghost use Rattle.std.specs.Prelude.{◌≡◌, true, min, length, replicate};
 ghost use Rattle.tables.specs.Table.{weight_by};
 ghost use Rattle.tables.specs.Reduction.{reduced};
