@@ -103,3 +103,6 @@ from_low n = elim (dec_lt n 17) [
   | yes h ↦ (let g : leads_from n ≡ triangle n = rw (lt-ltb n 17 h) in omega arith)
   | no h ↦ (let g : leads_from n ≡ 0 = rw (le-ltb n 17 (omega arith)) in omega arith)
 ]
+
+-- Both ways to find, for the check.
+pub ruleset found_either_way = (from-pairs, from_front)

@@ -108,6 +108,7 @@ fn by_levels(
 }
 
 // How far each row of a table is from the rows before it, with the weights of events by a mask, by the quicker of the two. Answers where the leads stand. It changes nothing unless the table is valid and scratch has room.
+#[tactic(auto, using(crate::proofs::Found::found_either_way))]
 pub fn find_apart(
     mask: u32,
     rows: usize,

@@ -43,6 +43,7 @@ fn known(first: First) -> bool
 }
 
 // The first pass: where two rows are at distance 1 and their marks differ, their run is at its end.
+#[tactic(auto, using(crate::proofs::Turns::ended_other))]
 fn ended(
     mask: u32,
     rows: u16,

@@ -95,3 +95,6 @@ module _ {whole : ℕ} {b : List ℕ} {count i at cells marks : ℕ} (j : Judgin
     pub judging-end : length b ≤ at → needed_by (images_read whole count b) ≡ needs.Room cells marks
     unfolding list_of total
     judging-end g = last ∙ ap (λ (F : Found). more cells marks (needed_by F)) (images_end whole (drop at b) (omega (arith, length-drop at b))) ∙ more-none cells marks
+
+-- How judging ends, for the check to find.
+pub ruleset judging_ends = (judging-more, judging-end)

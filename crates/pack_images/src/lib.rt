@@ -39,6 +39,7 @@ fn refusal(whole: usize, read: Read) -> Needs
 }
 
 // Judges so many images one after another, in a pack of so many bytes, and then what is left over.
+#[tactic(auto, using(crate::proofs::Judging::judging_ends))]
 pub fn judge(whole: usize, count: usize, images: &[u8]) -> Needs
     ensures { result ≡ needed_by (images_read whole count images.now) }
 {

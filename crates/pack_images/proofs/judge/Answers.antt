@@ -3,7 +3,7 @@ use native.Mathlib.Numerals.{add-one}
 use Rattle.pack_images.specs.Judge.{refusal_in}
 use Rattle.tables.proofs.Over.{rest_is}
 use Rattle.pack_images.proofs.Walk.{front}
-use Rattle.pack_images.proofs.Judging.{judging_begin, judging-refused, few_rows, few_events, image-inside, judging-next, judging-more, judging-end}
+use Rattle.pack_images.proofs.Judging.{judging_begin, judging-refused, few_rows, few_events, image-inside, judging-next}
 use native.Mathlib.Omega.{arith}
 use Rattle.pack_images.proofs.judge.Goals as goal
 
@@ -63,11 +63,3 @@ loop-i-preserved c = let a = c.args in
     let e = sym (c.open_image-read.ensures ∙ ap front (rest_is b l.at)) ∙ c.in-Table.is in
     let n = judging-next l.invariant c.loop-i-test.true (λ i. omega (arith, (c.shared_slice_known-1.given i).fits)) _ _ _ e in
     rw (add-one, c.image_length-at.ensures, c.mark_bytes-marks.ensures) n
-
-pub returns-then-at-images : goal.returns-then-at-images
-returns-then-at-images c = let l = c.loop-i in
-    sym (judging-more l.invariant (omega arith) c.if-at-images.true)
-
-pub returns : goal.returns
-returns c = let l = c.loop-i in
-    sym (judging-end l.invariant (omega arith) c.if-at-images.false)
