@@ -25,11 +25,9 @@ use Rattle.apart.specs.Finding.{leads_from, Finding}
 use Rattle.apart.proofs.Pairs.{apart_held, apart-still}
 
 -- The next one is put.
-pub put_next : (n : ℕ) (s t : List ℕ) {at q w x : ℕ} → at ≡ folds_start n → needed n ≤ length s → q < n → w ≡ q → Wrote at q (λ p. apart_at n s p n) s t → x ≡ apart_at n t q n
-    → Wrote at (q + 1) (λ p. apart_at n s p n) s (set t (at + w) x)
-put_next n s t {at} {q} {w} {x} e room h same d is =
-    subst (λ (y : ℕ). Wrote at (q + 1) (λ p. apart_at n s p n) s (set t (at + y) x)) (sym same)
-    (wrote_next x (omega arith) d (is ∙ apart-still n s t (λ i g. d.below i (omega arith)) q h n (omega arith)))
+pub put_next : (n : ℕ) (s t : List ℕ) {at q x : ℕ} → at ≡ folds_start n → needed n ≤ length s → q < n → Wrote at q (λ p. apart_at n s p n) s t → x ≡ apart_at n t q n
+    → Wrote at (q + 1) (λ p. apart_at n s p n) s (set t (at + q) x)
+put_next n s t {at} {q} {x} e room h d is = wrote_next x (omega arith) d (is ∙ apart-still n s t (λ i g. d.below i (omega arith)) q h n (omega arith))
 
 -- By pairs, where r tells whether they could be found.
 module _ (mask : ℕ) (T : Table) (s : List ℕ) {r : Bool} {t : List ℕ} (test : r ≡ workable T (length s)) (e : t ≡ lengths_in mask T s) where

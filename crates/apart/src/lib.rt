@@ -12,45 +12,37 @@ ghost use Rattle.apart.specs.Finding.{leads_from, Finding};
 const ENDLESS: u16 = 65535;
 
 // Whether row p comes before row q in the order: it is deeper, or as deep and its number is lower.
+#[tactic(auto, unfolding(crate::specs::Steps::ahead_at))]
 fn ahead(scratch: &[u16], rows: u16, q: u16, p: u16) -> bool
     ensures { result ≡ ahead_at rows scratch.now q p }
 {
     let own = lengths::lead(scratch, rows, q);
     let other = lengths::lead(scratch, rows, p);
-    if own < other {
-        return true;
-    }
-    if other < own {
-        return false;
-    }
-    p < q
+    own < other || (own == other && p < q)
 }
 
 // The lesser of a distance and that of rows q and p, if p comes before q.
+#[tactic(auto, using(measures::proofs::Cells::measure_read))]
 fn nearer(starts: &[u32], scratch: &[u16], rows: u16, q: u16, p: u16, least: u16) -> u16
     requires { starts.now ≡ starts_of_rows }
     ensures { result ≡ nearer_of rows scratch.now q p least }
 {
     if ahead(scratch, rows, q, p) {
-        let m = measures::between(starts, scratch, q, p);
-        let distance = m.distance;
-        if distance < least {
-            return distance;
-        }
+        least.min(measures::between(starts, scratch, q, p).distance)
+    } else {
+        least
     }
-    least
 }
 
 // The least distance of a row from one that comes before it.
+#[tactic(auto, unfolding(crate::specs::Steps::apart_at))]
 fn apart(scratch: &[u16], rows: u16, q: u16) -> u16
     ensures { result ≡ apart_at rows scratch.now q rows }
 {
     let starts = row_starts::table();
     let mut least = ENDLESS;
-    let mut p = 0;
-    while p < rows {
+    for p in 0..rows {
         least = nearer(&starts, scratch, rows, q, p, least);
-        p += 1;
     }
     least
 }
@@ -61,10 +53,8 @@ fn put_all(scratch: &mut [u16], rows: u16)
     ensures { let s = scratch.old in Wrote (folds_start rows) rows (λ q. apart_at rows s q rows) s scratch.new }
 {
     let at = pairs::folds_at(rows);
-    let mut q = 0;
-    while q < rows {
-        scratch[at + rules::wide(q)] = apart(scratch, rows, q);
-        q += 1;
+    for q in 0..rows {
+        scratch[at + q as usize] = apart(scratch, rows, q);
     }
 }
 
@@ -98,13 +88,9 @@ fn by_levels(
     requires { 17 ≤ rows }
     ensures { Finding 0 mask (table_of rows events start cells.now marks.now) scratch.old scratch.new }
 {
-    if 1024 < rows {
-        return;
+    if rows <= 1024 && pairs::needed(rows as u16) <= scratch.len() {
+        quick_folding::find_apart(mask, rows, events, start, cells, marks, scratch);
     }
-    if scratch.len() < pairs::needed(rows as u16) {
-        return;
-    }
-    quick_folding::find_apart(mask, rows, events, start, cells, marks, scratch);
 }
 
 // How far each row of a table is from the rows before it, with the weights of events by a mask, by the quicker of the two. Answers where the leads stand. It changes nothing unless the table is valid and scratch has room.
@@ -123,8 +109,9 @@ pub fn find_apart(
 {
     if rows < 17 {
         by_pairs(mask, rows, events, start, cells, marks, scratch);
-        return pairs::pair_cells(rows as u16);
+        pairs::pair_cells(rows as u16)
+    } else {
+        by_levels(mask, rows, events, start, cells, marks, scratch);
+        0
     }
-    by_levels(mask, rows, events, start, cells, marks, scratch);
-    0
 }

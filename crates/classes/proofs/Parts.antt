@@ -4,7 +4,10 @@ use mathlib.Core.Path.{◌≡◌, refl, sym, ap, subst, ◌∙◌}
 use mathlib.Core.Bool.{Bool, true, false, true≢false}
 use mathlib.Core.List.{List}
 use mathlib.Core.Logic.{◌⊎◌, inl, inr, ⊎_elim}
-use Prim.Native.Nat.{ℕ, zero, suc, ◌+◌, ◌*◌, ◌≤◌, ◌<◌}
+use Rattle.std.specs.Prelude.{Option, Some, None, IfSome}
+use Rattle.std.specs.Option.{unwrap_or}
+use Rattle.std.proofs.lemmas.Option.{none-some, same_Some}
+use Prim.Native.Nat.{ℕ, ◌+◌, ◌*◌, ◌≤◌, ◌<◌}
 use native.Mathlib.Omega.{arith}
 use borrow.Author.Tests.{eqb-true, eq-eqb, ne_eqb}
 use lib.Dec.{eqb}
@@ -12,38 +15,27 @@ use lib.ListN.{length, set}
 use lib.Seq.{get_or-set_same, get_or-set_other}
 use Rattle.scratch.proofs.Numbers.{eq_or_ne, lt_or_ge}
 use Rattle.splitting.specs.Places.{nxt_at, Frame, Canon, followers}
-use Rattle.splitting.proofs.Frames.{frame_none, frame_then, frame_set}
+use Rattle.splitting.proofs.Frames.{frame_then, frame_set}
 use Rattle.splitting.proofs.Counts.{followers_lt}
-use Rattle.classes.specs.Steps.{Keyed, Goes, Part, stays, leads, joins, Parts}
+use Rattle.classes.specs.Steps.{Keyed, Goes, Part, stays, joins, Parts}
 
 -- What became of place j, led by x before and by l now.
-pub data Gone (goes : Type 0) (first j x l : ℕ) : Type 0 where
+pub data Gone (goes : Type 0) (first : Option ℕ) (j x l : ℕ) : Type 0 where
   stayed : (goes → ⊥) → l ≡ x → Gone goes first j x l
-  went : (y : ℕ) → goes → first ≡ suc y → y ≤ j → l ≡ y → Gone goes first j x l
+  went : (y : ℕ) → goes → first ≡ Some y → y ≤ j → l ≡ y → Gone goes first j x l
 
 -- The places below i had their turns.
-pub record Parting (n c v : ℕ) (like : Bool) (h : ℕ → ℕ) (s t : List ℕ) (i first : ℕ) : Type 0 where
+pub record Parting (n c v : ℕ) (like : Bool) (h : ℕ → ℕ) (s t : List ℕ) (i : ℕ) (first : Option ℕ) : Type 0 where
   pub frame : Frame n s t
   pub ahead : (j : ℕ) → i ≤ j → j < n → nxt_at n t j ≡ nxt_at n s j
   pub turns : (j : ℕ) → j < i → Gone (Goes n c v like h s j) first j (nxt_at n s j) (nxt_at n t j)
-  pub lead : (y : ℕ) → first ≡ suc y → (y < i) × Goes n c v like h s y × (nxt_at n t y ≡ y)
+  pub lead : (y : ℕ) → first ≡ Some y → (y < i) × Goes n c v like h s y × (nxt_at n t y ≡ y)
 
 eqb_same : (a b v : ℕ) → (a ≡ v → b ≡ v) → (b ≡ v → a ≡ v) → eqb a v ≡ eqb b v
 eqb_same a b v f g = ⊎_elim (λ e. eq-eqb a v e ∙ sym (eq-eqb b v (f e))) (λ e. ne_eqb a v e ∙ sym (ne_eqb b v (λ k. e (g k)))) (eq_or_ne a v)
 
 module _ {n to c v : ℕ} {like : Bool} {h : ℕ → ℕ} {s : List ℕ} (p : Parts n to c v like h s) where
-  -- No place before its leader is of class c.
-  pub parting_start : to ≤ n → Parting n c v like h s s c 0
-  parting_start fits =
-      let b = p.inside in
-      record {
-        frame = frame_none;
-        ahead = λ j l g. refl;
-        turns = λ j l. stayed (λ g. omega (arith, g.0, p.canon.down j (omega arith))) refl;
-        lead = λ y e. absurd (omega arith);
-      }
-
-  module _ {t : List ℕ} {i first : ℕ} (d : Parting n c v like h s t i first) where
+  module _ {t : List ℕ} {i : ℕ} {first : Option ℕ} (d : Parting n c v like h s t i first) where
     -- It can be seen as before which places are of class v.
     same-v : (x : ℕ) → x < n → eqb (nxt_at n t x) v ≡ eqb (nxt_at n s x) v
     same-v x l = ⊎_elim (λ g. pick (d.turns x g)) (λ g. ap (λ (k : ℕ). eqb k v) (d.ahead x g l)) (lt_or_ge x i)
@@ -57,12 +49,12 @@ module _ {n to c v : ℕ} {like : Bool} {h : ℕ → ℕ} {s : List ℕ} (p : Pa
             (λ k. absurd (p.other (sym k ∙ g.0)))
 
     -- The first that went is below i.
-    pub parting-first : i ≤ to → first ≤ to
+    pub parting-first : i ≤ to → IfSome first (λ j. j < to)
     parting-first l = held first refl
       where
-        held : (x : ℕ) → first ≡ x → x ≤ to
-        held zero e = omega arith
-        held (suc y) e = omega (arith, (d.lead y e).0)
+        held : (x : Option ℕ) → first ≡ x → IfSome x (λ j. j < to)
+        held None e = tt
+        held (Some y) e = omega (arith, (d.lead y e).0)
 
     module _ (room : 12 * n ≤ length s) (l : i < n) (inside : h i < n) where
       goes-is : Goes n c v like h t i → Goes n c v like h s i
@@ -82,7 +74,7 @@ module _ {n to c v : ℕ} {like : Bool} {h : ℕ → ℕ} {s : List ℕ} (p : Pa
           }
 
       -- place i is led by y
-      module _ (y r : ℕ) (goes : Goes n c v like h s i) (is : r ≡ suc y) (low : y ≤ i) (before : first ≡ 0 ⊎ first ≡ r) (new : first ≡ 0 → y ≡ i) where
+      module _ (y : ℕ) (r : Option ℕ) (goes : Goes n c v like h s i) (is : r ≡ Some y) (low : y ≤ i) (before : first ≡ None ⊎ first ≡ r) (new : first ≡ None → y ≡ i) where
         led : List ℕ
         led = set t (4 * n + i) y
 
@@ -96,11 +88,11 @@ module _ {n to c v : ℕ} {like : Bool} {h : ℕ → ℕ} {s : List ℕ} (p : Pa
 
         earlier : (j : ℕ) → j < i → Gone (Goes n c v like h s j) first j (nxt_at n s j) (nxt_at n t j) → Gone (Goes n c v like h s j) r j (nxt_at n s j) (nxt_at n led j)
         earlier j a (stayed g e) = stayed g (other j (omega arith) ∙ e)
-        earlier j a (went z g e b k) = went z g (⊎_elim (λ o. absurd (omega arith)) (λ o. sym o ∙ e) before) b (other j (omega arith) ∙ k)
+        earlier j a (went z g e b k) = went z g (⊎_elim (λ o. absurd (none-some z (sym o ∙ e))) (λ o. sym o ∙ e) before) b (other j (omega arith) ∙ k)
 
-        leader : (z : ℕ) → r ≡ suc z → (z < i + 1) × Goes n c v like h s z × (nxt_at n led z ≡ z)
+        leader : (z : ℕ) → r ≡ Some z → (z < i + 1) × Goes n c v like h s z × (nxt_at n led z ≡ z)
         leader z e =
-            let k : z ≡ y = omega arith in
+            let k : z ≡ y = same_Some z y (sym e ∙ is) in
             ⊎_elim
             (λ o. let w : z ≡ i = k ∙ new o in (omega arith, subst (Goes n c v like h s) (sym w) goes, ap (nxt_at n led) w ∙ here ∙ sym k))
             (λ o. let w = d.lead z (o ∙ e) in (omega (arith, w.0), w.1, other z (omega (arith, w.0)) ∙ w.2))
@@ -120,16 +112,19 @@ module _ {n to c v : ℕ} {like : Bool} {h : ℕ → ℕ} {s : List ℕ} (p : Pa
               lead = leader;
             }
 
-      pub parting-next : {u : List ℕ} {r : ℕ} → Part n i (Goes n c v like h t i) first t u r → Parting n c v like h s u (i + 1) r
+      pub parting-next : {u : List ℕ} {r : Option ℕ} → Part n i (Goes n c v like h t i) first t u r → Parting n c v like h s u (i + 1) r
       parting-next (stays not e f) = rw (e, f) (still (λ g. not (goes_on g)))
-      parting-next {u} {r} (leads goes o e f) =
-          subst (λ (w : List ℕ). Parting n c v like h s w (i + 1) r) (sym e) (goes_to i r (goes-is goes) f (omega arith) (inl o) (λ k. refl))
-      parting-next {u} {r} (joins y goes o e f) =
-          let w = d.lead y o in
-          subst (λ (w : List ℕ). Parting n c v like h s w (i + 1) r) (sym e) (goes_to y r (goes-is goes) (f ∙ o) (omega (arith, w.0)) (inr (sym f)) (λ k. absurd (omega arith)))
+      parting-next {u} {r} (joins goes e f) = by first refl
+        where
+          by : (x : Option ℕ) → first ≡ x → Parting n c v like h s u (i + 1) r
+          by None o = rw (e, o) (goes_to i r (goes-is goes) (f ∙ ap (λ (x : Option ℕ). Some (unwrap_or x i)) o) (omega arith) (inl o) (λ k. refl))
+          by (Some y) o =
+              let w = d.lead y o in
+              let is : r ≡ Some y = f ∙ ap (λ (x : Option ℕ). Some (unwrap_or x i)) o in
+              rw (e, o) (goes_to y r (goes-is goes) is (omega (arith, w.0)) (inr (o ∙ sym is)) (λ k. absurd (none-some y (sym k ∙ o))))
 
   -- ---- all places had their turns, and one went
-  module _ {t : List ℕ} {first : ℕ} (d : Parting n c v like h s t to first) where
+  module _ {t : List ℕ} {first : Option ℕ} (d : Parting n c v like h s t to first) where
     leader-stays : (j : ℕ) → nxt_at n s j ≡ j → Goes n c v like h s j → ⊥
     leader-stays j e g = let w : j ≡ c = sym e ∙ g.0 in p.stays (subst (λ (k : ℕ). eqb (nxt_at n s (h k)) v ≡ like) w g.1)
 
@@ -162,7 +157,7 @@ module _ {n to c v : ℕ} {like : Bool} {h : ℕ → ℕ} {s : List ℕ} (p : Pa
     together i j e f (stayed g k) (stayed g' k') = k ∙ e ∙ sym k'
     together i j e f (stayed g k) (went y g' o b k') = absurd (g (both j i (sym e) (sym f) g'))
     together i j e f (went y g o b k) (stayed g' k') = absurd (g' (both i j e f g))
-    together i j e f (went y g o b k) (went z g' o' b' k') = let w : y ≡ z = omega arith in k ∙ w ∙ sym k'
+    together i j e f (went y g o b k) (went z g' o' b' k') = let w : y ≡ z = same_Some y z (sym o ∙ o') in k ∙ w ∙ sym k'
 
     less : (i : ℕ) → i < to → Goes n c v like h s i → Gone (Goes n c v like h s i) first i (nxt_at n s i) (nxt_at n t i) → followers (nxt_at n t) to < followers (nxt_at n s) to
     less i l goes (stayed not k) = absurd (not goes)
@@ -181,41 +176,35 @@ module _ {n to c v : ℕ} {like : Bool} {h : ℕ → ℕ} {s : List ℕ} (p : Pa
         }
 
 -- ---- how the class of a place that is unlike its leader is split
-module _ {to c : ℕ} (n : ℕ) (h : ℕ → ℕ) (s : List ℕ) (i : ℕ) (canon : Canon to (nxt_at n s)) (inside : (j : ℕ) → j < to → h j < to) (l : i < to)
-    (unlike : nxt_at n s (h i) ≡ nxt_at n s (h (nxt_at n s i)) → ⊥) (is : c ≡ nxt_at n s i) where
-  unlike_c : nxt_at n s (h i) ≡ nxt_at n s (h c) → ⊥
-  unlike_c e = unlike (e ∙ ap (λ (k : ℕ). nxt_at n s (h k)) is)
-
-  c_inside : c < to
-  c_inside = omega (arith, is, canon.down i l)
-
-  c-leads : nxt_at n s c ≡ c
-  c-leads = ap (nxt_at n s) is ∙ canon.leads i l ∙ sym is
+module _ {to : ℕ} (n : ℕ) (h : ℕ → ℕ) (s : List ℕ) (i : ℕ) (canon : Canon to (nxt_at n s)) (inside : (j : ℕ) → j < to → h j < to) (l : i < to)
+    (unlike : nxt_at n s (h i) ≡ nxt_at n s (h (nxt_at n s i)) → ⊥) where
+  pub leader_inside : nxt_at n s i < to
+  leader_inside = omega (arith, canon.down i l)
 
   -- those go that lead where it leads, if that is out of the class
-  pub parts_like : (v : ℕ) → v ≡ nxt_at n s (h i) → (v ≡ c → ⊥) → Parts n to c v true h s × Goes n c v true h s i
+  pub parts_like : (v : ℕ) → v ≡ nxt_at n s (h i) → (v ≡ nxt_at n s i → ⊥) → Parts n to (nxt_at n s i) v true h s × Goes n (nxt_at n s i) v true h s i
   parts_like v e o = (
     record {
       canon = canon;
-      inside = c_inside;
-      class = c-leads;
+      inside = leader_inside;
+      class = canon.leads i l;
       target = ap (nxt_at n s) e ∙ canon.leads (h i) (inside i l) ∙ sym e;
       other = o;
-      stays = λ k. unlike_c (sym e ∙ sym (eqb-true (nxt_at n s (h c)) v k));
+      stays = λ k. unlike (sym e ∙ sym (eqb-true (nxt_at n s (h (nxt_at n s i))) v k));
     },
-    (sym is, eq-eqb (nxt_at n s (h i)) v (sym e)),
+    (refl, eq-eqb (nxt_at n s (h i)) v (sym e)),
   )
 
   -- else those that do not lead where its leader leads
-  pub parts_else : (v w : ℕ) → v ≡ nxt_at n s (h i) → v ≡ c → w ≡ nxt_at n s (h c) → Parts n to c w false h s × Goes n c w false h s i
+  pub parts_else : (v w : ℕ) → v ≡ nxt_at n s (h i) → v ≡ nxt_at n s i → w ≡ nxt_at n s (h (nxt_at n s i)) → Parts n to (nxt_at n s i) w false h s × Goes n (nxt_at n s i) w false h s i
   parts_else v w e o k = (
     record {
       canon = canon;
-      inside = c_inside;
-      class = c-leads;
-      target = ap (nxt_at n s) k ∙ canon.leads (h c) (inside c c_inside) ∙ sym k;
-      other = λ z. unlike_c (sym e ∙ o ∙ sym z ∙ k);
-      stays = λ z. true≢false (sym (eq-eqb (nxt_at n s (h c)) w (sym k)) ∙ z);
+      inside = leader_inside;
+      class = canon.leads i l;
+      target = ap (nxt_at n s) k ∙ canon.leads (h (nxt_at n s i)) (inside (nxt_at n s i) leader_inside) ∙ sym k;
+      other = λ z. unlike (sym e ∙ o ∙ sym z ∙ k);
+      stays = λ z. true≢false (sym (eq-eqb (nxt_at n s (h (nxt_at n s i))) w (sym k)) ∙ z);
     },
-    (sym is, ne_eqb (nxt_at n s (h i)) w (λ z. unlike_c (z ∙ k))),
+    (refl, ne_eqb (nxt_at n s (h i)) w (λ z. unlike (z ∙ k))),
   )

@@ -1,5 +1,5 @@
 -- A place that alone leads where it leads gets out of its class alone.
-use mathlib.Core.Path.{◌≡◌, sym, ap, subst, ◌∙◌}
+use mathlib.Core.Path.{◌≡◌, refl, sym, ap, subst, ◌∙◌}
 use mathlib.Core.List.{List}
 use mathlib.Core.Logic.{inl, ⊎_elim}
 use Prim.Native.Nat.{ℕ, ◌+◌, ◌*◌, ◌/◌, ◌≤◌, ◌<◌}
@@ -14,7 +14,7 @@ use Rattle.splitting.proofs.Frames.{frame_set}
 use Rattle.splitting.proofs.Counts.{followers_lt}
 use Rattle.classes.specs.Values.{row_in, target_in, lead_to, Sizes, Reads}
 use Rattle.classes.specs.Steps.{Keyed}
-use Rattle.classes.proofs.Reading.{front_read}
+use Rattle.classes.proofs.Reading.{front_read, row_is, cell_in}
 
 -- Of `count` values no two are x.
 abbrev Single : (ℕ → ℕ) → ℕ → ℕ → Type 0
@@ -22,12 +22,31 @@ Single f count x = (i j : ℕ) → i < count → j < count → f i ≡ x → f j
 
 -- One place is of the class to which place i leads, and stands for one row, which is the target of one row, which stands at one place.
 module _ {n m to : ℕ} {cells s : List ℕ} (z : Sizes n m to cells s) (within : (j : ℕ) → j < to → Reads n m to cells s (row_in n (front n s) j)) (a : ℕ) (h : a < m) where
-  -- what was read of place i
+  -- what is read of place i
   pub record Looked (i row target place leader : ℕ) : Type 0 where
     pub row_is : row ≡ row_in n (front n s) i
     pub target_is : target ≡ target_in m cells (row_in n (front n s) i) a
     pub place_is : place ≡ lead_to n m cells (front n s) a i
     pub leader_is : leader ≡ nxt_at n s (lead_to n m cells (front n s) a i)
+    pub cell : row * m + a < length cells
+    pub target_low : target < n
+    pub place_low : place < n
+
+  pub looked : (i : ℕ) → i < to → let row = get_or s (3 * n + i) 0 in let target = get_or cells (row * m + a) 0 in let place = get_or s (2 * n + target) 0 in Looked i row target place (nxt_at n s place)
+  looked i l =
+      let w = within i l in
+      let row = row_is n s i (get_or s (3 * n + i) 0) refl (omega (arith, z.inside)) in
+      let target = ap (λ (q : ℕ). get_or cells (q * m + a) 0) row in
+      let place = ap (λ (t : ℕ). get_or s (2 * n + t) 0) target ∙ sym (front_read n s (2 * n + target_in m cells (row_in n (front n s) i) a) (omega (arith, w.targets a h))) in
+      record {
+        row_is = row;
+        target_is = target;
+        place_is = place;
+        leader_is = ap (nxt_at n s) place;
+        cell = cell_in (get_or s (3 * n + i) 0) a z (omega (arith, row, w.row)) h;
+        target_low = omega (arith, target, w.targets a h);
+        place_low = omega (arith, place, w.places a h, z.inside);
+      }
 
   pub sole_place : {i row target place leader : ℕ} → i < to → Looked i row target place leader → Single (λ k. get_or cells (0 + k) 0) (n * m) target → Single (λ k. get_or s (2 * n + k) 0) n place
       → Single (λ k. get_or s (4 * n + k) 0) to leader → Single (λ k. get_or s (3 * n + k) 0) to row → (j : ℕ) → j < to

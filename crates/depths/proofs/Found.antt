@@ -1,13 +1,14 @@
 -- From a table that can be worked on, and the leads before the first event, to those that are found.
 use mathlib.Core.Path.{◌≡◌, refl, sym, subst, ◌∙◌}
-use mathlib.Core.Bool.{Bool, false, not}
+use mathlib.Core.Bool.{Bool, true}
 use mathlib.Core.List.{List}
 use mathlib.Core.Logic.{◌⊎◌, inl}
 use Prim.Native.Nat.{ℕ, ◌-◌, ◌≤◌, ◌<◌, min}
 use native.Mathlib.Omega.{arith}
 use native.Mathlib.Decide.{ℕ_discrete}
-use borrow.Author.Tests.{not-false}
 use lib.ListN.{length, get_or, set, length-set}
+use mir.Syntax.{w8}
+use mir.Val.{Fits}
 use lib.Seq.{get_or-set_same, get_or-set_other}
 use Rattle.automata.proofs.Runs.{Reach, stay, less}
 use Rattle.tables.specs.Lists.{over}
@@ -32,9 +33,9 @@ pub record Ready (T : Table) (s : List ℕ) (at : ℕ) : Type 0 where
   pub events_fit : T.events ≤ 32
 
 -- As the code answers, by r. Mark bytes are bytes.
-pub ready : (T : Table) (s : List ℕ) → ((i : ℕ) → get_or T.marks i 0 < 256) → {r : Bool} → r ≡ workable T (length s) → not r ≡ false → {at : ℕ} → at ≡ leads_at T.rows → Ready T s at
-ready T s bytes {r} e t {at} place =
-    let w = workable_valid T (length s) (sym e ∙ not-false r t) bytes in
+pub ready : (T : Table) (s : List ℕ) → ((i : ℕ) → Fits w8 (get_or T.marks i 0)) → {r : Bool} → r ≡ workable T (length s) → r ≡ true → {at : ℕ} → at ≡ leads_at T.rows → Ready T s at
+ready T s bytes e t {at} place =
+    let w = workable_valid T (length s) (sym e ∙ t) (λ i. omega (arith, bytes i)) in
     record {
       from = omega (arith, w.1);
       space = record {
@@ -98,9 +99,9 @@ module _ (mask : ℕ) (T : Table) {s : List ℕ} (u : Workspace T.rows T.events 
       (settled-leads mask T space inside (first_known mask T started inside) g)
       (λ k h. g.behind k h ∙ get_or-set_other (cleared s 0 n) T.start k 1 0 (λ e. omega arith) ∙ cleared-behind s 0 n (omega arith) u.room k h)
 
-  pub found_by_lem : {to start : ℕ} {s₁ s₂ s₃ : List ℕ} → to ≡ n → start ≡ T.start → s₁ ≡ cleared s 0 to → s₂ ≡ set s₁ start 1
+  pub found_by_lem : {s₁ s₂ s₃ : List ℕ} → s₁ ≡ cleared s 0 n → s₂ ≡ set s₁ T.start 1
       → (Workspace n T.events T.cells s₂ → Settled mask n T.events T.cells s₂ s₃) → s₃ ≡ over s 0 (lead_cells (weight_by mask) T)
-  found_by_lem {to} {start} {s₁} {s₂} {s₃} et es e₁ e₂ g = found ((rw e at g) space)
+  found_by_lem {s₁} {s₂} {s₃} e₁ e₂ g = found ((rw e at g) space)
     where
       e : s₂ ≡ first
-      e = rw (e₂, e₁, et, es)
+      e = rw (e₂, e₁)

@@ -1,6 +1,6 @@
 -- What raises a lead, and what steps do one behind another.
 use mathlib.Core.Path.{◌≡◌, refl, sym, ap, subst, ◌∙◌}
-use mathlib.Core.Bool.{Bool, true, false, cond, true≢false, false≢true}
+use mathlib.Core.Bool.{Bool, true, false, cond, ◌||◌, true≢false, false≢true}
 use mathlib.Core.List.{List, [], ◌∷◌}
 use mathlib.Core.Logic.{◌⊎◌, inl, inr}
 use Prim.Native.Nat.{ℕ, zero, suc, ◌+◌, ◌-◌, ◌≤◌, ◌<◌, min}
@@ -44,9 +44,6 @@ below_set (y ∷ s) (suc k) x h l m = let ih = below_set s k x (omega arith) l m
 pub ahead : List ℕ → Bool → ℕ
 ahead s again = below s + cond again 1 0
 
-pub risen_none : {s : List ℕ} → Risen s s false
-risen_none = record { same_length = refl; rose = λ e. absurd (false≢true e); kept = λ e. refl }
-
 pub risen_raised : {at x : ℕ} {s s' : List ℕ} {r : Bool} → x ≤ 65535 → Raised at x s s' r → Risen s s' r
 risen_raised {at} {x} {s} {r} fits d = record {
   same_length = elim (either r) [ inl t ↦ ap length (d.low t).2 ∙ length-set s at x | inr t ↦ ap length (d.high t).1 ];
@@ -59,12 +56,9 @@ fewer true m = omega (arith, m.rose refl)
 fewer false m = omega (arith, ap below (m.kept refl))
 
 -- One step more, that changes something or not.
-module _ {s s' s'' : List ℕ} {changed hit : Bool} (m : Risen s s' changed) (n : Risen s' s'' hit) where
-  pub risen_hit : hit ≡ true → Risen s s'' true
-  risen_hit e = record { same_length = n.same_length ∙ m.same_length; rose = λ z. omega (arith, n.rose e, fewer changed m); kept = λ z. absurd (true≢false z) }
-
-  pub risen_miss : hit ≡ false → Risen s s'' changed
-  risen_miss e = record { same_length = n.same_length ∙ m.same_length; rose = λ z. omega (arith, m.rose z, ap below (n.kept e)); kept = λ z. n.kept e ∙ m.kept z }
+pub risen_then : {s s' s'' : List ℕ} (changed hit : Bool) → Risen s s' changed → Risen s' s'' hit → Risen s s'' (changed || hit)
+risen_then true hit m n = record { same_length = n.same_length ∙ m.same_length; rose = λ z. omega (arith, m.rose refl, fewer hit n); kept = λ z. absurd (true≢false z) }
+risen_then false hit m n = record { same_length = n.same_length ∙ m.same_length; rose = λ z. omega (arith, n.rose z, ap below (m.kept refl)); kept = λ z. n.kept z ∙ m.kept refl }
 
 -- Each sweep brings the measure down.
 pub risen_less : {s s' : List ℕ} (again changed : Bool) → again ≡ true → Risen s s' changed → ahead s' changed < ahead s again
@@ -95,21 +89,18 @@ module _ (mask : ℕ) (T : Table) where
   unmoved s r = record { grown = grown_none s; behind = λ k h. refl; rest = λ e. r }
 
   -- Step i of a sweep, of which P says that it is at rest: it changes something, or not.
-  module _ (P : List ℕ → ℕ → Type 0) {s s' s'' : List ℕ} (i : ℕ) {changed hit : Bool} (m : Moved mask T s s' changed ((x : ℕ) → x < i → P s x))
-      (n : Moved mask T s' s'' hit (P s' i)) where
-    moved-hit : Moved mask T s s'' true ((x : ℕ) → x < i + 1 → P s x)
-    moved-hit = record {
-      grown = grown_then m.grown n.grown;
-      behind = λ k h. n.behind k h ∙ m.behind k h;
-      rest = λ z. absurd (true≢false z);
-    }
-
-    moved-miss : hit ≡ false → (changed ≡ false → s' ≡ s) → Moved mask T s s'' changed ((x : ℕ) → x < i + 1 → P s x)
-    moved-miss e kept = record {
-      grown = grown_then m.grown n.grown;
-      behind = λ k h. n.behind k h ∙ m.behind k h;
-      rest = λ z. below_more (P s) i (m.rest z) (subst (λ (t : List ℕ). P t i) (kept z) (n.rest e));
-    }
+  moved_then : (P : List ℕ → ℕ → Type 0) {s s' s'' : List ℕ} (i : ℕ) (changed hit : Bool) → (changed ≡ false → s' ≡ s) → Moved mask T s s' changed ((x : ℕ) → x < i → P s x)
+      → Moved mask T s' s'' hit (P s' i) → Moved mask T s s'' (changed || hit) ((x : ℕ) → x < i + 1 → P s x)
+  moved_then P i true hit kept m n = record {
+    grown = grown_then m.grown n.grown;
+    behind = λ k h. n.behind k h ∙ m.behind k h;
+    rest = λ z. absurd (true≢false z);
+  }
+  moved_then P {s} i false hit kept m n = record {
+    grown = grown_then m.grown n.grown;
+    behind = λ k h. n.behind k h ∙ m.behind k h;
+    rest = λ z. below_more (P s) i (m.rest refl) (subst (λ (t : List ℕ). P t i) (kept refl) (n.rest z));
+  }
 
   -- ---- a lead that a run stands for
   module _ (s : List ℕ) (q x : ℕ) (room : q < length s) (some : 0 < x) (small : (x ≤ n) ⊎ (x ≡ 65535)) where
@@ -137,9 +128,6 @@ module _ (mask : ℕ) (T : Table) where
 
   -- ---- one event of row p, as the code goes about it
   module _ (s : List ℕ) (p a : ℕ) where
-    pub relax-none : {c place : ℕ} → place ≡ p → c ≡ get_or s place 0 → c ≡ 0 → Moved mask T s s false (Quiet mask T s p a)
-    relax-none e₁ e₂ e = unmoved s (λ h. absurd (omega (arith, e₂ ∙ ap (lead_in s) e₁)))
-
     module _ (u : Workspace n T.events T.cells s) (hp : p < n) (ha : a < T.events) (from : ¬ (lead_in s p ≡ 0)) where
       abbrev q : ℕ
       q = target_of T p a
@@ -167,13 +155,12 @@ module _ (mask : ℕ) (T : Table) where
       told true d = let h = d.low refl in rw h.2 (raised h.1)
       told false d = let h = d.high refl in rw h.1 (unmoved s (λ g. h.0 (omega (arith, u.room, inside))))
 
-    -- By the lead c of row p, read at a place, and by what is read and computed of the target.
-    pub relax-told : {c place to place' w x : ℕ} {s' : List ℕ} {r : Bool} → place ≡ p → c ≡ get_or s place 0 → ¬ (c ≡ 0) → to ≡ target_of T p a → w ≡ weight_by mask a → x ≡ further n c w → place' ≡ to
-        → Raised place' x s s' r → Workspace n T.events T.cells s → p < n → a < T.events → Moved mask T s s' r (Quiet mask T s p a)
-    relax-told {c} {place} {to} {place'} {w} {x} {s'} {r} e₁ e₂ h e₃ e₄ e₅ e₆ d u hp ha =
-        let lead_is : c ≡ lead_in s p = e₂ ∙ ap (lead_in s) e₁ in
-        let new_is : x ≡ further n (lead_in s p) (weight_by mask a) = e₅ ∙ rw (lead_is, e₄) in
-        told u hp ha (λ z. h (lead_is ∙ z)) r (rw (e₆ ∙ e₃, new_is) at d)
+    -- By the lead c of row p, and by what is read and computed of the target.
+    pub relax-told : {c to w x : ℕ} {s' : List ℕ} {r : Bool} → c ≡ lead_in s p → ¬ (c ≡ 0) → to ≡ target_of T p a → w ≡ weight_by mask a → x ≡ further n c w
+        → Raised to x s s' r → Workspace n T.events T.cells s → p < n → a < T.events → Moved mask T s s' r (Quiet mask T s p a)
+    relax-told {c} {to} {w} {x} {s'} {r} e₁ h e₂ e₃ e₄ d u hp ha =
+        let new_is : x ≡ further n (lead_in s p) (weight_by mask a) = e₄ ∙ rw (e₁, e₃) in
+        told u hp ha (λ z. h (e₁ ∙ z)) r (rw (e₂, new_is) at d)
 
 -- ---- the steps of a sweep, of which P says that they are at rest
 module _ (mask rows events : ℕ) (cells : List ℕ) (P : Table → List ℕ → ℕ → Type 0) where
@@ -181,15 +168,10 @@ module _ (mask rows events : ℕ) (cells : List ℕ) (P : Table → List ℕ →
   abbrev pub Steps : List ℕ → List ℕ → Bool → ℕ → Type 0
   Steps s s' changed i = Stepped mask rows events cells s s' changed (λ T. (x : ℕ) → x < i → P T s x)
 
-  pub steps_none : (s : List ℕ) → Steps s s false 0
-  steps_none s start marks = unmoved mask (table_of rows events start cells marks) s (λ x h. absurd (omega arith))
-
   module _ {s s' : List ℕ} {i : ℕ} {changed : Bool} (m : Steps s s' changed i) where
-    pub steps-hit : {s'' : List ℕ} {hit : Bool} → Stepped mask rows events cells s' s'' hit (λ T. P T s' i) → Steps s s'' true (i + 1)
-    steps-hit n start marks = moved-hit mask (table_of rows events start cells marks) (P (table_of rows events start cells marks)) i (m start marks) (n start marks)
-
-    pub steps-miss : {s'' : List ℕ} {hit : Bool} → Stepped mask rows events cells s' s'' hit (λ T. P T s' i) → hit ≡ false → Risen s s' changed → Steps s s'' changed (i + 1)
-    steps-miss n e r start marks = moved-miss mask (table_of rows events start cells marks) (P (table_of rows events start cells marks)) i (m start marks) (n start marks) e r.kept
+    pub steps_then : {s'' : List ℕ} {hit : Bool} → Risen s s' changed → Stepped mask rows events cells s' s'' hit (λ T. P T s' i) → Steps s s'' (changed || hit) (i + 1)
+    steps_then {s''} {hit} r n start marks =
+        moved_then mask (table_of rows events start cells marks) (P (table_of rows events start cells marks)) i changed hit r.kept (m start marks) (n start marks)
 
     pub steps_all : {n : ℕ} → n ≤ i → Steps s s' changed n
     steps_all h start marks = let d = m start marks in record { grown = d.grown; behind = d.behind; rest = λ e x l. d.rest e x (omega arith) }
@@ -203,9 +185,6 @@ pub record Settling (mask rows events : ℕ) (cells s s' : List ℕ) (again : Bo
   pub quiet : again ≡ false → (start : ℕ) (marks : List ℕ) → QuietRows mask (table_of rows events start cells marks) s'
 
 module _ {mask rows events : ℕ} {cells s : List ℕ} where
-  pub settling_none : Settling mask rows events cells s s true
-  settling_none = record { grown = λ start marks. grown_none mask (table_of rows events start cells marks) s; behind = λ k h. refl; quiet = λ z. absurd (true≢false z) }
-
   pub settling_more : {s' s'' : List ℕ} {again changed : Bool} → Settling mask rows events cells s s' again → Risen s' s'' changed
       → Stepped mask rows events cells s' s'' changed (λ T. QuietRows mask T s') → Settling mask rows events cells s s'' changed
   settling_more g r m = record {

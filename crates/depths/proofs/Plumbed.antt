@@ -1,11 +1,10 @@
 -- What stands in scratch after the search: the leads in their place, and all else as before.
 use mathlib.Core.Path.{◌≡◌, ap, subst, sym, ◌∙◌}
-use mathlib.Core.Bool.{Bool, true, false, not}
+use mathlib.Core.Bool.{Bool, true, false}
 use mathlib.Core.List.{List}
 use mathlib.Core.Logic.{inl, inr}
 use Prim.Native.Nat.{ℕ, ◌+◌, ◌≤◌, ◌<◌}
 use native.Mathlib.Omega.{arith}
-use borrow.Author.Tests.{not-true, not-false}
 use lib.ListN.{length, get_or, take, drop}
 use Rattle.automata.proofs.Tests.{either}
 use Rattle.tables.specs.Lists.{over}
@@ -31,16 +30,12 @@ module _ (mask : ℕ) (T : Table) (s : List ℕ) where
   plumbed-over e = rw e
 
   -- As the code answers, by r: whether the table can be worked on.
-  pub plumbed-refused : {r : Bool} → r ≡ workable T (length s) → not r ≡ true → (false ≡ workable T (length s)) × (s ≡ plumbed mask T s)
-  plumbed-refused {r} e t =
-      let f : workable T (length s) ≡ false = sym e ∙ not-true r t in
-      (sym f, sym (plumbed-not f))
+  pub plumbed-refused : {r : Bool} → r ≡ workable T (length s) → r ≡ false → (false ≡ workable T (length s)) × (s ≡ plumbed mask T s)
+  plumbed-refused e t = (sym t ∙ e, sym (plumbed-not (sym e ∙ t)))
 
-  pub plumbed_done : {r : Bool} {s' : List ℕ} → r ≡ workable T (length s) → not r ≡ false → s' ≡ over s (leads_at T.rows) leads
+  pub plumbed_done : {r : Bool} {s' : List ℕ} → r ≡ workable T (length s) → r ≡ true → s' ≡ over s (leads_at T.rows) leads
       → (true ≡ workable T (length s)) × (s' ≡ plumbed mask T s)
-  plumbed_done {r} e t g =
-      let f : workable T (length s) ≡ true = sym e ∙ not-false r t in
-      (sym f, g ∙ sym (plumbed-over f))
+  plumbed_done e t g = (sym t ∙ e, g ∙ sym (plumbed-over (sym e ∙ t)))
 
   -- The search is lent the scratch from the leads on, and leaves b there.
   pub plumbed_lent : {at : ℕ} {b : List ℕ} → at ≡ leads_at T.rows → b ≡ over (rest s at) 0 leads → with_rest s at b ≡ over s (leads_at T.rows) leads

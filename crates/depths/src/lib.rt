@@ -7,23 +7,20 @@ ghost use Rattle.depths.specs.Depths.{plumbed};
 ghost use Rattle.depths.specs.Steps.{further, Workspace, Risen, Raised, Stepped, Quiet, QuietRow, QuietRows, Settled, Searched};
 
 // The lead of a row to which an event leads from a row of the given lead. Above the number of rows it is endless.
+#[tactic(auto, unfolding(crate::specs::Steps::further))]
 fn longer(rows: u16, lead: u16, weight: u16) -> u16
     ensures { result ≡ further rows lead weight }
 {
-    if rules::wide(rows) < rules::wide(lead) + rules::wide(weight) {
-        return 65535;
-    }
-    lead + weight
+    // A sum that saturates is endless either way.
+    let next = lead.saturating_add(weight);
+    if rows < next { u16::MAX } else { next }
 }
 
 // Raises a cell to x where it is lower, and answers whether it did. Beyond the last it does nothing.
 fn raise(cells: &mut [u16], at: usize, x: u16) -> bool
     ensures { Raised at x cells.old cells.new result }
 {
-    if cells.len() <= at {
-        return false;
-    }
-    if x <= cells[at] {
+    if cells.len() <= at || x <= cells[at] {
         return false;
     }
     cells[at] = x;
@@ -44,13 +41,13 @@ pub fn relax(
         Risen s t result
         × (Workspace rows events c s → row < rows → event < events → Stepped mask rows events c s t result (λ T. Quiet mask T s row event)) }
 {
-    let lead = scratch::cell(scratch, rules::wide(row));
+    let lead = scratch::cell(scratch, row as usize);
     if lead == 0 {
         return false;
     }
     let target = scratch::target(cells, events, row, event);
     let next = longer(rows, lead, weights::weight(mask, event));
-    raise(scratch, rules::wide(target), next)
+    raise(scratch, target as usize, next)
 }
 
 // The same for every event of a row.
@@ -67,13 +64,8 @@ fn sweep_row(
         × (Workspace rows events c s → row < rows → Stepped mask rows events c s t result (λ T. QuietRow mask T s row)) }
 {
     let mut changed = false;
-    let mut event = 0;
-    while event < events {
-        let hit = relax(mask, rows, events, cells, scratch, row, event);
-        event += 1;
-        if hit {
-            changed = true;
-        }
+    for event in 0..events {
+        changed |= relax(mask, rows, events, cells, scratch, row, event);
     }
     changed
 }
@@ -85,13 +77,8 @@ fn sweep(mask: u32, rows: u16, events: u16, cells: &[u16], scratch: &mut [u16]) 
         × (Workspace rows events c s → Stepped mask rows events c s t result (λ T. QuietRows mask T s)) }
 {
     let mut changed = false;
-    let mut row = 0;
-    while row < rows {
-        let hit = sweep_row(mask, rows, events, cells, scratch, row);
-        row += 1;
-        if hit {
-            changed = true;
-        }
+    for row in 0..rows {
+        changed |= sweep_row(mask, rows, events, cells, scratch, row);
     }
     changed
 }
@@ -112,8 +99,8 @@ fn search(mask: u32, rows: u16, events: u16, start: u16, cells: &[u16], scratch:
     requires { Workspace rows events cells.now scratch.old × (start < rows) }
     ensures { Searched mask rows events start cells.now scratch.old scratch.new }
 {
-    scratch::clear(scratch, 0, rules::wide(rows));
-    scratch::put(scratch, rules::wide(start), 1);
+    scratch::clear(scratch, 0, rows as usize);
+    scratch::put(scratch, start as usize, 1);
     settle(mask, rows, events, cells, scratch);
 }
 

@@ -12,15 +12,14 @@ use Rattle.tables.specs.Reduction.{reduced, records}
 use Rattle.tables.proofs.Over.{over_inside}
 use Rattle.tables.proofs.Counted.{mask_light}
 use Rattle.tables.proofs.Theorems.{never-more, records-length, valid, same_events}
-use Rattle.rules.specs.declared.Verdict.{Verdict}
-use Rattle.rules.specs.declared.Verdict.TheVariants.{Fine, Refused}
 use Rattle.pairs.proofs.Triangle.{needed-value, triangle_le, triangle_square}
 use Rattle.records.specs.declared.Record.{Record}
-use Rattle.reduction_rules.specs.declared.Answer.{Answer}
-use Rattle.reduction_rules.specs.declared.Answer.TheVariants as answer
 use Rattle.weights.specs.Weights.{spare_bit_set, counted}
 use Rattle.weights.proofs.Counts.{counted-all}
-use Rattle.rules.specs.Rules.{mask_rule, left_by}
+use Rattle.rules.specs.Rules.{Verdict, number_of, sound, mask_rule, left_by}
+use Rattle.std.specs.Prelude.{Result, Ok, Err}
+use Rattle.rules.specs.declared.Rule.TheVariants.{Mask}
+use Rattle.rules.specs.declared.Refusal.{Refusal}
 use Rattle.rules.proofs.Checks.{unbroken}
 use Rattle.scratch.specs.Scratch.{scratch_cells}
 use Rattle.reduction_rules.specs.Checks.{verdict}
@@ -59,7 +58,7 @@ listing_same rows events counted cells cells' marks marks' given l l' hc hm hl =
     let records-same : joined given (λ i. record_line i (get_or l i blank)) ≡ joined given (λ i. record_line i (get_or l' i blank)) = joined_same given _ _ (λ i h. ap (record_line i) (hl i h)) in
     rw (rows_same, records-same)
 
-counted-rows : {x y : ℕ} → answer.Reduced x ≡ answer.Reduced y → x ≡ y
+counted-rows : {x y : ℕ} → ◌≡◌ {A = Result ℕ Refusal} (Ok x) (Ok y) → x ≡ y
 counted-rows e = cc
 
 -- The reduction of a table, as it stands in the buffers.
@@ -97,7 +96,7 @@ module _ (k : Offset) (mask : ℕ) (T : Table) (v : Valid T) (few : T.rows ≤ 1
       front d s fits i h = ap (λ (j : ℕ). get_or (over d 0 s) j 0) (sym (zero-add i)) ∙ over_inside d 0 s fits i 0 h
 
   -- What the reducer's promise says of these buffers: the answer, and the text that is read off them.
-  module _ (fits : mask < 2 ^ 32) (cells marks scratch : List ℕ) (hc : length cells ≡ 4096) (hm : length marks ≡ 16) (hs : length scratch ≡ 8640) {a : Answer} {cells' marks' scratch' : List ℕ}
+  module _ (fits : mask < 2 ^ 32) (cells marks scratch : List ℕ) (hc : length cells ≡ 4096) (hm : length marks ≡ 16) (hs : length scratch ≡ 8640) {a : Result ℕ Refusal} {cells' marks' scratch' : List ℕ}
       (p : Promise scratch_cells (verdict scratch_cells mask T (length cells) (length marks) 1024 (length scratch)) k mask T cells marks scratch a cells' marks' scratch') where
     judged_so : verdict scratch_cells mask T (length cells) (length marks) 1024 (length scratch) ≡ mask_rule mask T.events
     judged_so = rw (hc, hm, hs) (by_mask mask T v few)
@@ -106,27 +105,27 @@ module _ (k : Offset) (mask : ℕ) (T : Table) (v : Valid T) (few : T.rows ≤ 1
     answered = p.answers ∙ ap (λ (u : Verdict). answer_by u U.rows) judged_so
 
     -- A refusal is that of the mask.
-    pub refusal_is : (number place : ℕ) → a ≡ answer.Refused number place → refusal_line number place ≡ masked_text mask (reduction_text k mask) T
-    refusal_is number place e = pick (mask_rule mask T.events) (sym answered ∙ e)
+    pub refusal_is : (r : Refusal) → a ≡ Err r → refusal_line (number_of r.rule) r.place ≡ masked_text mask (reduction_text k mask) T
+    refusal_is r e = pick (mask_rule mask T.events) (sym answered ∙ e)
       where
-        pick : (u : Verdict) → answer_by u U.rows ≡ answer.Refused number place → refusal_line number place ≡ text_by u (reduction_text k mask T)
-        pick Fine e = let z : ◌≡◌ {A = ℕ} 0 1 = cc in absurd (omega arith)
-        pick (Refused n q) e = let hn : n ≡ number = cc in let hq : q ≡ place = cc in rw (hn, hq)
+        pick : (u : Verdict) → answer_by u U.rows ≡ Err r → refusal_line (number_of r.rule) r.place ≡ text_by u (reduction_text k mask T)
+        pick (Ok u) e = let z : ◌≡◌ {A = ℕ} 0 1 = cc in absurd (omega arith)
+        pick (Err s) e = let same : s ≡ r = cc in rw same
 
-    module _ (left : ℕ) (e : a ≡ answer.Reduced left) where
+    module _ (left : ℕ) (e : a ≡ Ok left) where
       -- With a row count no bit of the mask belongs to no event.
-      kept : (mask_rule mask T.events ≡ Fine) × (left ≡ U.rows)
+      kept : (mask_rule mask T.events ≡ sound) × (left ≡ U.rows)
       kept = pick (mask_rule mask T.events) (sym answered ∙ e)
         where
-          pick : (u : Verdict) → answer_by u U.rows ≡ answer.Reduced left → (u ≡ Fine) × (left ≡ U.rows)
-          pick Fine e = (refl, sym (counted-rows e))
-          pick (Refused n q) e = let z : ◌≡◌ {A = ℕ} 0 1 = cc in absurd (omega arith)
+          pick : (u : Verdict) → answer_by u U.rows ≡ Ok left → (u ≡ sound) × (left ≡ U.rows)
+          pick (Ok u) e = (refl, sym (counted-rows e))
+          pick (Err s) e = let z : ◌≡◌ {A = ℕ} 0 1 = cc in absurd (omega arith)
 
-      fine : verdict scratch_cells mask T (length cells) (length marks) 1024 (length scratch) ≡ Fine
+      fine : verdict scratch_cells mask T (length cells) (length marks) 1024 (length scratch) ≡ sound
       fine = judged_so ∙ kept.0
 
       all-counted : counted mask 32 ≡ counted mask T.events
-      all-counted = counted-all mask T.events v.events_fit fits (unbroken 16 (spare_bit_set mask T.events) 0 kept.0)
+      all-counted = counted-all mask T.events v.events_fit fits (unbroken Mask (spare_bit_set mask T.events) 0 kept.0)
 
       pub text_is : (bl l : List Record) → l ≡ records_by (verdict scratch_cells mask T (length cells) (length marks) 1024 (length scratch)) bl (records (weight_by mask) k T)
           → {count : ℕ} → count ≡ counted mask 32 → listing left T.events count cells' marks' T.rows l ≡ masked_text mask (reduction_text k mask) T

@@ -2,16 +2,14 @@
 // What the program `reduce` makes of the bytes that it reads: the text that it prints.
 ghost use Rattle.std.specs.Prelude.{◌≡◌, ◌≤◌, min, length};
 ghost use Rattle.tables.specs.Table.{Valid};
-ghost use Rattle.rules.specs.Rules.{table_of, offset_of};
+ghost use Rattle.rules.specs.Rules.{lent, offset_of};
 ghost use Rattle.text.specs.Text.{filled, Puts};
-ghost use Rattle.image_text.specs.ImageText.{text_of_image, masked_text};
+ghost use Rattle.image_text.specs.ImageText.{masked_text};
 ghost use Rattle.desk.specs.Printed.{reduction_text, printed};
 ghost use Rattle.listing.specs.Listing.{blank as blank_record};
 
-use image_sections::Read;
-use image_text::Loaded;
-use reduction_rules::Answer;
-use rules::Offset;
+use image_text::TableText;
+use rules::Table;
 
 // A record to be written over.
 fn blank() -> records::Record
@@ -24,18 +22,9 @@ fn blank() -> records::Record
 }
 
 // Writes the listing of the reduction of a valid table of at most 128 rows, or the refusal of its mask.
-fn write_reduction(
-    offset: Offset,
-    mask: u32,
-    rows: usize,
-    events: usize,
-    start: usize,
-    cells: &[u16],
-    marks: &[u8],
-    out: &mut [u8],
-) -> usize
-    requires { Valid (table_of rows events start cells.now marks.now) × (rows ≤ 128) }
-    ensures { Puts out.old 0 (masked_text mask (reduction_text (offset_of offset) mask) (table_of rows events start cells.now marks.now)) out.new result }
+fn write_reduction(offset: Option<u16>, mask: u32, table: Table<'_>, out: &mut [u8]) -> usize
+    requires { Valid (lent table) × (table.rows ≤ 128) }
+    ensures { Puts out.old 0 (masked_text mask (reduction_text (offset_of offset) mask) (lent table.entry)) out.new result }
 {
     let mut newcells = [0u16; 4096];
     let mut newmarks = [0u8; 16];
@@ -44,57 +33,39 @@ fn write_reduction(
         ways::Way::First,
         offset,
         mask,
-        rows,
-        events,
-        start,
-        cells,
-        marks,
+        table,
         &mut newcells,
         &mut newmarks,
         [blank(); 1024],
         &mut scratch,
     );
-    let answer = done.answer;
-    let records = done.records;
-    match answer {
-        Answer::Refused(number, place) => lines::put_refusal(out, 0, number, place),
-        Answer::Reduced(left) => listing::put_listing(
+    match done.answer {
+        Err(of_mask) => lines::put_refusal(out, 0, of_mask.rule.number(), of_mask.place),
+        Ok(left) => listing::put_listing(
             out,
             0,
             left as u16,
-            events as u16,
+            table.events as u16,
             weights::counted(mask),
             &newcells,
             &newmarks,
-            rows as u16,
-            records,
+            table.rows as u16,
+            done.records,
         ),
     }
 }
 
-// Writes the text for an image.
-fn write_image_text(offset: Offset, mask: u32, image: &[u8], out: &mut [u8]) -> usize
-    ensures { Puts out.old 0 (text_of_image (masked_text mask (reduction_text (offset_of offset) mask)) image.now) out.new result }
-{
-    let Loaded {
-        read,
-        cells,
-        marks,
-        count,
-        bytes,
-    } = image_text::load(image);
-    match read {
-        Read::Refused(number, place) => lines::put_refusal(out, 0, number, place),
-        Read::Table(rows, events, start) => write_reduction(
-            offset,
-            mask,
-            rows,
-            events,
-            start,
-            &cells[..count],
-            &marks[..bytes],
-            out,
-        ),
+// The listing of the reduction of a table, from an offset on.
+#[derive(Clone, Copy)]
+struct Reduction {
+    offset: Option<u16>,
+}
+
+impl TableText for Reduction {
+    ghost text = { λ r mask. reduction_text (offset_of r.offset) mask };
+
+    fn write(&self, mask: u32, table: Table<'_>, out: &mut [u8]) -> usize {
+        write_reduction(self.offset, mask, table, out)
     }
 }
 
@@ -109,5 +80,5 @@ pub fn write_text(input: &[u8], out: &mut [u8]) -> usize
     }
     let offset = image_text::offset_of(input[0], input[1]);
     let mask = image_text::mask_of(input[2], input[3], input[4], input[5]);
-    write_image_text(offset, mask, &input[6..], out)
+    image_text::write_image_text(&Reduction { offset }, mask, &input[6..], out)
 }

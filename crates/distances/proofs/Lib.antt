@@ -1,7 +1,6 @@
 pub mod Fits
 pub mod Moves
 pub mod Visits
-pub mod Lowering
 pub mod Levels
 pub mod Final
 pub mod Rising

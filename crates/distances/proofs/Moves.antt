@@ -1,12 +1,11 @@
 -- A level while it is being settled: pairs that do not fit leave it, until those that are left all fit.
-use mathlib.Core.Path.{◌≡◌, refl, sym, ap, subst, ◌∙◌}
-use mathlib.Core.Bool.{Bool, true, false, cond, true≢false, false≢true}
+use mathlib.Core.Path.{◌≡◌, refl, sym, subst, ◌∙◌}
+use mathlib.Core.Bool.{Bool, true, false, true≢false, false≢true}
 use mathlib.Core.List.{List, [], ◌∷◌}
 use mathlib.Core.Logic.{◌⊎◌, inr, ⊎_elim}
 use Prim.Native.Nat.{ℕ, zero, suc, ◌+◌, ◌≤◌, ◌<◌}
 use native.Mathlib.Nat.{eq-or-lt_of_le}
 use native.Mathlib.Omega.{arith}
-use borrow.Author.Count.{below_more}
 use borrow.Author.Tests.{eq-eqb, ne_eqb}
 use lib.ListN.{length, get_or, set, drop, length-set}
 use lib.Seq.{get_or-set_same, get_or-set_other, drop-set-lt}
@@ -17,7 +16,7 @@ use Rattle.scratch.proofs.Numbers.{lt_or_ge, eq_or_ne}
 use Rattle.pairs.proofs.Triangle.{triangle-next}
 use Rattle.pairs.proofs.Cells.{pair_greater}
 use Rattle.pairs.proofs.Pairs.{pair_sym, pair_set}
-use Rattle.distances.specs.Search.{Fits, Cells, Given, Begun, Moved, Turned, Quiet, QuietRow, QuietRows, Visited, RowSwept, Swept, Settled, occurrences}
+use Rattle.distances.specs.Search.{Fits, Cells, Given, Begun, Moved, Turned, QuietRows, Visited, Swept, Settled, occurrences}
 use Rattle.distances.proofs.Fits.{near_fits, fits_self, fits_turn}
 
 -- A store over a cell that was v, of something else, leaves one fewer of them.
@@ -28,11 +27,10 @@ occurrences-set v (y ∷ s) zero x h e ne = rw (eq-eqb y v e, ne_eqb x v ne) (om
 occurrences-set v (y ∷ s) (suc k) x h e ne = omega (arith, occurrences-set v s k x (omega arith) e ne)
 
 -- Sweeps from s on have come to t.
-pub record Settling (E : Events) (M : Machine) (level : ℕ) (s t : List ℕ) (again : Bool) : Type 0 where
+pub record Settling (E : Events) (M : Machine) (level : ℕ) (s t : List ℕ) : Type 0 where
   pub begun : Begun E M level t
   pub size : length t ≡ length s
   pub rest : drop (triangle M.rows) t ≡ drop (triangle M.rows) s
-  pub quiet : again ≡ false → QuietRows E M level M.rows t
 
 pub given_same : {E : Events} {M : Machine} {s t : List ℕ} → Given E M s → length t ≡ length s → Given E M t
 given_same g e = record { sound = g.sound; few = g.few; room = omega (arith, g.room) }
@@ -43,12 +41,6 @@ module _ {E : Events} {M : Machine} {level : ℕ} where
 
   pub turned_none : {P : List ℕ → Type 0} {s : List ℕ} → Begun E M level s → P s → Turned E M P level s s false
   turned_none b h = record { moved = unmoved b; quiet = λ e. h }
-
-  pub turned-map : {P R : List ℕ → Type 0} {s t : List ℕ} {r : Bool} → Turned E M P level s t r → (P s → R s) → Turned E M R level s t r
-  turned-map m f = record { moved = m.moved; quiet = λ e. f (m.quiet e) }
-
-  pub begun-moved : {s t : List ℕ} {r : Bool} → Begun E M level s → Moved E M level s t r → Begun E M level t
-  begun-moved b m = record { given = given_same b.given m.size; in_range = b.in_range; cells = m.cells }
 
   -- ---- a store over the cell of a pair that does not fit
   module _ (s : List ℕ) (q p : ℕ) (b : Begun E M level s) (hq : q < M.rows) (hp : p < q) (e : get_or s (triangle q + p) 0 ≡ level)
@@ -118,63 +110,7 @@ module _ {E : Events} {M : Machine} {level : ℕ} where
           quiet = λ z. absurd (true≢false z);
         }
 
-  -- ---- step after step
-  no_more : {s t : List ℕ} (r : Bool) → Moved E M level s t r → occurrences level t ≤ occurrences level s
-  no_more true m = omega (arith, m.fewer refl)
-  no_more false m = omega (arith, ap (occurrences level) (m.kept refl))
-
-  module _ {P Q R : List ℕ → Type 0} {s t u : List ℕ} {r b : Bool} (m : Turned E M P level s t r) (n : Turned E M Q level t u b) where
-    -- The second step changed something.
-    turned-hit : b ≡ true → Turned E M R level s u true
-    turned-hit e =
-        record {
-          moved =
-              record {
-                cells = n.moved.cells;
-                size = n.moved.size ∙ m.moved.size;
-                rest = n.moved.rest ∙ m.moved.rest;
-                kept = λ z. absurd (true≢false z);
-                fewer = λ z. omega (arith, n.moved.fewer e, no_more r m.moved);
-              };
-          quiet = λ z. absurd (true≢false z);
-        }
-
-    -- It did not.
-    turned-miss : b ≡ false → (P s → Q s → R s) → Turned E M R level s u r
-    turned-miss e both =
-        record {
-          moved =
-              record {
-                cells = n.moved.cells;
-                size = n.moved.size ∙ m.moved.size;
-                rest = n.moved.rest ∙ m.moved.rest;
-                kept = λ z. n.moved.kept e ∙ m.moved.kept z;
-                fewer = λ z. omega (arith, m.moved.fewer z, ap (occurrences level) (n.moved.kept e));
-              };
-          quiet = λ z. both (m.quiet z) (subst Q (m.moved.kept z) (n.quiet e));
-        }
-
-  -- One pair more of row q; one row more.
-  module _ {s t u : List ℕ} {r b : Bool} (q p : ℕ) (m : Turned E M (QuietRow E M level q p) level s t r) (n : Visited E M level q p t u b) where
-    pub row-hit : b ≡ true → Turned E M (QuietRow E M level q (p + 1)) level s u true
-    row-hit e = turned-hit m n e
-
-    pub row-miss : b ≡ false → Turned E M (QuietRow E M level q (p + 1)) level s u r
-    row-miss e = turned-miss m n e (below_more (λ x. Quiet E M level q x s) p)
-
-  module _ {s t u : List ℕ} {r b : Bool} (q : ℕ) (m : Turned E M (QuietRows E M level q) level s t r) (n : RowSwept E M level q t u b) where
-    pub rows-hit : b ≡ true → Turned E M (QuietRows E M level (q + 1)) level s u true
-    rows-hit e = turned-hit m n e
-
-    pub rows-miss : b ≡ false → Turned E M (QuietRows E M level (q + 1)) level s u r
-    rows-miss e = turned-miss m n e (below_more (λ x. QuietRow E M level x x s) q)
-
-  -- With one more for a sweep that is yet to come, each sweep brings the count down.
-  pub moved_less : {s t : List ℕ} (b r : Bool) → b ≡ true → Moved E M level s t r → occurrences level t + cond r 1 0 < occurrences level s + cond b 1 0
-  moved_less true true e m = omega (arith, m.fewer refl)
-  moved_less true false e m = omega (arith, ap (occurrences level) (m.kept refl))
-  moved_less false r e m = absurd (false≢true e)
-
+  -- ---- sweeps until nothing changes
   -- A sweep that changed nothing settles the level.
   settled : {s : List ℕ} → Cells E M level level s → QuietRows E M level M.rows s → Cells E M (suc level) level s
   settled {s} v quiet =
@@ -195,18 +131,10 @@ module _ {E : Events} {M : Machine} {level : ℕ} where
           (lt_or_ge q p))
           (lt_or_ge p q)
 
-  -- ---- sweeps until nothing changes
-  pub settling_start : {s : List ℕ} → Begun E M level s → Settling E M level s s true
-  settling_start b = record { begun = b; size = refl; rest = refl; quiet = λ e. absurd (true≢false e) }
-
-  pub settling_next : {s t u : List ℕ} {a r : Bool} → Settling E M level s t a → Swept E M level t u r → Settling E M level s u r
-  settling_next g n =
+  pub settling_end : {s t u : List ℕ} {r : Bool} → Settling E M level s t → Swept E M level t u r → r ≡ false → Settled E M level s u
+  settling_end g n e =
       record {
-        begun = begun-moved g.begun n.moved;
+        cells = settled n.moved.cells (subst (QuietRows E M level M.rows) (sym (n.moved.kept e)) (n.quiet e));
         size = n.moved.size ∙ g.size;
         rest = n.moved.rest ∙ g.rest;
-        quiet = λ e. subst (QuietRows E M level M.rows) (sym (n.moved.kept e)) (n.quiet e);
       }
-
-  pub settling_end : {s t : List ℕ} {a : Bool} → Settling E M level s t a → a ≡ false → Settled E M level s t
-  settling_end g e = record { cells = settled g.begun.cells (g.quiet e); size = g.size; rest = g.rest }

@@ -76,26 +76,8 @@ module _ {E : Events} {M : Machine} where
         rest = v.rest ∙ ap (drop (triangle M.rows)) e ∙ clear_rest s (triangle M.rows) g.room;
       }
 
-  pub rising_start : {s t : List ℕ} → Given E M s → Settled E M 0 s t → Rising E M 1 t t
-  rising_start g v = record { above = omega arith; most = omega (arith, g.sound.start_inside); cells = v.cells; size = refl; rest = refl }
-
   -- s is scratch as it was lent, t with the first level settled, u as it is now.
   module _ {level : ℕ} {s t u : List ℕ} (g : Given E M s) (f : Settled E M 0 s t) (v : Rising E M level t u) where
-    pub rising-ready : level < M.rows → Ready E M level u
-    rising-ready h = record { given = given_same g (v.size ∙ f.size); above = v.above; in_range = h; cells = v.cells }
-
-    pub rising-next : {w : List ℕ} {r : Bool} → level < M.rows → Risen E M level u w r → Rising E M (level + 1) t w
-    rising-next {w} h n =
-        let e : suc level ≡ level + 1 = omega arith in
-        let k : level ≡ level + 1 - 1 = omega arith in
-        record {
-          above = omega arith;
-          most = omega arith;
-          cells = subst (λ (l : ℕ). Cells E M (level + 1) l w) k (subst (λ (d : ℕ). Cells E M d level w) e n.settled.cells);
-          size = n.settled.size ∙ v.size;
-          rest = n.settled.rest ∙ v.rest;
-        }
-
     -- Each cell is right, so the whole triangle is.
     whole : (w : List ℕ) → length w ≡ length u → drop (triangle M.rows) w ≡ drop (triangle M.rows) u
         → ((q p : ℕ) → q < M.rows → p < M.rows → pair_at w q p ≡ len_cell (distance E M q p))

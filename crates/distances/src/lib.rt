@@ -11,13 +11,6 @@ ghost use Rattle.distances.specs.Distances.{distance_cells, measured};
 ghost use Rattle.scratch.specs.Scratch.{machine_by};
 ghost use Rattle.distances.specs.Search.{events_by, Fits, Given, Begun, Visited, RowSwept, Swept, Settled, Ready, Risen, Lowered};
 
-// level less w, 0 where that is below.
-fn less(level: u16, w: u16) -> u16
-    ensures { result ≡ level - w }
-{
-    if w <= level { level - w } else { 0 }
-}
-
 // Whether the targets of rows q and p at an event have a cell that is small enough for the level.
 fn event_fits(
     mask: u32,
@@ -35,7 +28,7 @@ fn event_fits(
 {
     let i = scratch::target(cells, events, q, event);
     let j = scratch::target(cells, events, p, event);
-    pairs::pair(starts, scratch, i, j) <= less(level, weights::weight(mask, event))
+    pairs::pair(starts, scratch, i, j) <= level.saturating_sub(weights::weight(mask, event))
 }
 
 // Whether the level fits rows q and p.
@@ -54,17 +47,13 @@ fn pair_fits(
     requires { starts.now ≡ starts_of_rows }
     ensures { Tested result (Fits (events_by mask events) (machine_by rows events cells.now marks.now) (pair_at scratch.now) level q p) }
 {
-    if level == 0 {
-        if marks::mark(marks, rules::wide(q)) != marks::mark(marks, rules::wide(p)) {
-            return false;
-        }
+    if level == 0 && marks::mark(marks, q as usize) != marks::mark(marks, p as usize) {
+        return false;
     }
-    let mut event = 0;
-    while event < events {
+    for event in 0..events {
         if !event_fits(mask, events, cells, starts, scratch, level, q, p, event) {
             return false;
         }
-        event += 1;
     }
     true
 }
@@ -87,13 +76,12 @@ fn visit(
     requires q_lt_rows { (q < rows) × (p < q) }
     ensures { Visited (events_by mask events) (machine_by rows events cells.now marks.now) level q p scratch.old scratch.new result }
 {
-    let at = pairs::row_start(starts, q) + rules::wide(p);
-    if scratch::cell(scratch, at) != level {
-        return false;
-    }
-    if pair_fits(
-        mask, rows, events, cells, marks, starts, scratch, level, q, p,
-    ) {
+    let at = pairs::row_start(starts, q) + p as usize;
+    if scratch::cell(scratch, at) != level
+        || pair_fits(
+            mask, rows, events, cells, marks, starts, scratch, level, q, p,
+        )
+    {
         return false;
     }
     scratch::put(scratch, at, 65535);
@@ -118,15 +106,10 @@ fn sweep_row(
     ensures { RowSwept (events_by mask events) (machine_by rows events cells.now marks.now) level q scratch.old scratch.new result }
 {
     let mut changed = false;
-    let mut p = 0;
-    while p < q {
-        let hit = visit(
+    for p in 0..q {
+        changed |= visit(
             mask, rows, events, cells, marks, starts, scratch, level, q, p,
         );
-        p += 1;
-        if hit {
-            changed = true;
-        }
     }
     changed
 }
@@ -146,13 +129,8 @@ fn sweep(
 {
     let starts = row_starts::table();
     let mut changed = false;
-    let mut q = 0;
-    while q < rows {
-        let hit = sweep_row(mask, rows, events, cells, marks, &starts, scratch, level, q);
-        q += 1;
-        if hit {
-            changed = true;
-        }
+    for q in 0..rows {
+        changed |= sweep_row(mask, rows, events, cells, marks, &starts, scratch, level, q);
     }
     changed
 }
@@ -170,10 +148,7 @@ fn settle(
     requires { Begun (events_by mask events) (machine_by rows events cells.now marks.now) level scratch.old }
     ensures { Settled (events_by mask events) (machine_by rows events cells.now marks.now) level scratch.old scratch.new }
 {
-    let mut again = true;
-    while again {
-        again = sweep(mask, rows, events, cells, marks, scratch, level);
-    }
+    while sweep(mask, rows, events, cells, marks, scratch, level) {}
 }
 
 // Each of the first cells that is 65,535 becomes the level.
@@ -181,28 +156,11 @@ fn lower(scratch: &mut [u16], count: usize, level: u16)
     requires { count ≤ length scratch.old }
     ensures { Lowered count level scratch.old scratch.new }
 {
-    let mut k = 0;
-    while k < count {
-        if scratch[k] == 65535 {
-            scratch[k] = level;
+    for cell in &mut scratch[..count] {
+        if *cell == 65535 {
+            *cell = level;
         }
-        k += 1;
     }
-}
-
-// Whether one of the first cells is the level.
-fn some(scratch: &[u16], count: usize, level: u16) -> bool
-    requires { count ≤ length scratch.now }
-    ensures { result ≡ false → (k : ℕ) → k < count → get_or scratch.now k 0 ≡ level → ⊥ }
-{
-    let mut k = 0;
-    while k < count {
-        if scratch[k] == level {
-            return true;
-        }
-        k += 1;
-    }
-    false
 }
 
 // Settles the next level, and answers whether a pair has it.
@@ -221,7 +179,7 @@ fn rise(
     let count = pairs::pair_cells(rows);
     lower(scratch, count, level);
     settle(mask, rows, events, cells, marks, scratch, level);
-    some(scratch, count, level)
+    scratch[..count].contains(&level)
 }
 
 // The first level: each pair has it, until it is seen not to fit.
@@ -239,12 +197,10 @@ fn search(mask: u32, rows: u16, events: u16, cells: &[u16], marks: &[u8], scratc
     ensures { scratch.new ≡ over scratch.old 0 (distance_cells (weight_by mask) (table_of rows events 0 cells.now marks.now)) }
 {
     begin(mask, rows, events, cells, marks, scratch);
-    let mut level = 1;
-    while level < rows {
+    for level in 1..rows {
         if !rise(mask, rows, events, cells, marks, scratch, level) {
             return;
         }
-        level += 1;
     }
 }
 

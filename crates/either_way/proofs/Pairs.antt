@@ -2,14 +2,12 @@
 use mathlib.Core.Path.{◌≡◌, sym, ap, ◌∙◌}
 use mathlib.Core.Bool.{true}
 use mathlib.Core.List.{List}
-use Prim.Native.Nat.{ℕ, ◌+◌, ◌*◌, ◌≤◌, ◌<◌}
+use Prim.Native.Nat.{ℕ, ◌+◌, ◌-◌, ◌*◌, ◌≤◌, ◌<◌}
 use native.Mathlib.Omega.{arith}
 use native.Mathlib.Nat.{add_assoc}
 use lib.ListN.{length, get_or}
-use Rattle.tables.specs.Lists.{tabulate, over}
+use Rattle.std.specs.List.{CopiedTo, SameFrom}
 use Rattle.tables.specs.Table.{Table, Offset}
-use Rattle.tables.proofs.Lists.{tabulate-length}
-use Rattle.tables.proofs.Over.{over-length, over-behind, front_at}
 use Rattle.pairs.specs.Pairs.{triangle, workable}
 use Rattle.scratch.specs.Scratch.{scratch_cells}
 use Rattle.pairs.proofs.Triangle.{needed-value}
@@ -28,25 +26,17 @@ module _ (mask : ℕ) (k : Offset) (T : Table) (s : List ℕ) (w : workable T (l
   pub pairs_fit : triangle n + 3 * n ≤ length t
   pairs_fit = omega (arith, size, (workable-fine T (length s) w).1)
 
-  module _ (u : List ℕ) (from count : ℕ) (hf : from ≡ triangle n) (hc : count ≡ 3 * n) (g : u ≡ over t 0 (tabulate count (λ i. get_or t (from + i) 0))) where
+  module _ (u : List ℕ) (from count : ℕ) (hf : from ≡ triangle n) (hc : count ≡ 3 * n) (long : length u ≡ length t) (copied : CopiedTo t u from 0 count) (rest : SameFrom t u (0 + count)) where
     moved : (i : ℕ) → i < 3 * n → get_or u i 0 ≡ get_or t (triangle n + i) 0
-    moved i h =
-        ap (λ (l : List ℕ). get_or l i 0) g ∙ front_at t count (λ j. get_or t (from + j) 0) (omega (arith, pairs_fit)) i (omega arith)
-        ∙ ap (λ (x : ℕ). get_or t (x + i) 0) hf
-
-    long : length (tabulate count (λ i. get_or t (from + i) 0)) ≡ count
-    long = tabulate-length count (λ i. get_or t (from + i) 0)
-
-    inside : 0 + length (tabulate count (λ i. get_or t (from + i) 0)) ≤ length t
-    inside = omega (arith, long, pairs_fit)
+    moved i h = let at : from + (i - 0) ≡ triangle n + i = omega arith in
+        copied i 0 (omega arith) (omega arith) ∙ ap (λ (x : ℕ). get_or t x 0) at
 
     pub pairs-folded : FoldedBy scratch_cells mask k T s u
     pairs-folded = record {
-      size = ap length g ∙ over-length t 0 _ inside ∙ size;
+      size = long ∙ size;
       folds = record {
         leads = λ q h. moved q (omega arith) ∙ ap (λ (l : List ℕ). get_or l (triangle n + q) 0) e ∙ folded-lead mask k T s w q h;
         folds = λ q h r. moved (2 * n + q) (omega arith) ∙ ap (λ (x : ℕ). get_or t x 0) (sym (add_assoc (triangle n) (2 * n) q)) ∙ ap (λ (l : List ℕ). get_or l (triangle n + 2 * n + q) 0) e ∙ folded-fold mask k T s w q h;
       };
-      beyond = λ i h. ap (λ (l : List ℕ). get_or l i 0) g ∙ over-behind t 0 _ inside i 0 (omega (arith, long, needed-value n))
-          ∙ ap (λ (l : List ℕ). get_or l i 0) e ∙ folded-beyond mask k T s w i (omega (arith, needed-value n));
+      beyond = λ i h. rest i 0 (omega (arith, needed-value n)) ∙ ap (λ (l : List ℕ). get_or l i 0) e ∙ folded-beyond mask k T s w i (omega (arith, needed-value n));
     }

@@ -15,7 +15,7 @@ ghost use Rattle.image_reader.specs.Read.{read_in_form, cells_as, marks_in};
 ghost use Rattle.packs.specs.Pack.{list_of, cells_of, marks_of};
 ghost use Rattle.pack_writer.specs.Write.{packed, pack_in};
 ghost use Rattle.pack_reader.specs.Read.{unpacked, answer_of, left_in};
-ghost use Rattle.answers.specs.Answers.{of_written, of_read, of_unpacked, of_answer, of_told, of_ordered, of_verdict, offset_in};
+ghost use Rattle.answers.specs.Answers.{of_count, of_read, of_told, of_ordered, of_verdict, offset_in};
 ghost use Rattle.chosen.specs.GivenUp.{given_up};
 ghost use Rattle.last_run_rules.specs.Checks.{verdict as verdict_of_row, answer_by as told_by};
 ghost use Rattle.last_run.specs.LastRun.{last_of_all, Promise as PromiseOfRun};
@@ -25,6 +25,8 @@ ghost use Rattle.text.specs.Text.{filled};
 ghost use Rattle.desk.specs.Printed.{printed};
 ghost use Rattle.sheet_desk.specs.Printed.{printed as printed_sheet};
 ghost use Rattle.loss_desk.specs.Printed.{printed as printed_losses};
+
+use rules::Table;
 
 // Writes what `reduce` prints for its input, as `desk::write_text` does.
 #[unsafe(no_mangle)]
@@ -69,10 +71,17 @@ pub extern "C" fn gelfost_write_radio(
 )
     ensures { let T = table_of rows events start cells.now marks.now in let b = out.old in
         (out.new ≡ image_in_as Radio T b)
-        × (answer.new ≡ of_written (written_as Radio T (length b))) }
+        × (answer.new ≡ of_count (written_as Radio T (length b))) }
 {
-    let written = image_writer::write_radio_image(rows, events, start, cells, marks, out);
-    answers::put_written(answer, written);
+    let table = Table {
+        rows,
+        events,
+        start,
+        cells,
+        marks,
+    };
+    let written = image_writer::write_radio_image(table, out);
+    answers::put_count(answer, written);
 }
 
 // Reads a radio image, as `image_reader::read_radio_image` does.
@@ -104,10 +113,10 @@ pub extern "C" fn gelfost_write_pack(
 )
     ensures { let l = list.now in let c = cells.now in let m = marks.now in let b = out.old in
         (out.new ≡ pack_in l c m b)
-        × (answer.new ≡ of_written (packed l c m (length b))) }
+        × (answer.new ≡ of_count (packed l c m (length b))) }
 {
     let written = pack_writer::write_pack(list, cells, marks, out);
-    answers::put_written(answer, written);
+    answers::put_count(answer, written);
 }
 
 // Reads a pack, as `pack_reader::read_pack` does.
@@ -124,10 +133,10 @@ pub extern "C" fn gelfost_read_pack(
         (list.new ≡ left_in found list_of entries)
         × (cells.new ≡ left_in found cells_of given)
         × (marks.new ≡ left_in found marks_of bytes)
-        × (answer.new ≡ of_unpacked (answer_of found)) }
+        × (answer.new ≡ of_count (answer_of found)) }
 {
     let found = pack_reader::read_pack(pack, list, cells, marks);
-    answers::put_unpacked(answer, found);
+    answers::put_count(answer, found);
 }
 
 // Reduces a table, as `reduction::reduce_table` does the first way.
@@ -148,23 +157,26 @@ pub extern "C" fn gelfost_reduce(
     ensures { let T = table_of rows events start cells.now marks.now in let k = offset_in offset in
         let c = newcells.old in let m = newmarks.old in let s = scratch.old in
         let need = scratch_cells in let v = verdict need mask T (length c) (length m) rows (length s) in let a = answer_by v (reduced (weight_by mask) k T).rows in
-        (answer.new ≡ of_answer a)
+        (answer.new ≡ of_count a)
         × Promise need v k mask T c m s a newcells.new newmarks.new scratch.new }
 {
-    let found = reduction::reduce_table(
-        ways::Way::First,
-        answers::offset_of(offset),
-        mask,
+    let table = Table {
         rows,
         events,
         start,
         cells,
         marks,
+    };
+    let found = reduction::reduce_table(
+        ways::Way::First,
+        answers::offset_of(offset),
+        mask,
+        table,
         newcells,
         newmarks,
         scratch,
     );
-    answers::put_answer(answer, found);
+    answers::put_count(answer, found);
 }
 
 // Reduces a table, as `reduction::reduce_table` does the second way.
@@ -185,24 +197,27 @@ pub extern "C" fn gelfost_reduce_few(
     ensures { let T = table_of rows events start cells.now marks.now in let k = offset_in offset in
         let c = newcells.old in let m = newmarks.old in let s = scratch.old in
         let need = few_cells in let v = verdict need mask T (length c) (length m) rows (length s) in let a = answer_by v (reduced (weight_by mask) k T).rows in
-        (answer.new ≡ of_answer a)
+        (answer.new ≡ of_count a)
         × Promise need v k mask T c m s a newcells.new newmarks.new scratch.new }
 {
-    let k = answers::offset_of(offset);
-    let found = reduction::reduce_table(
-        ways::Way::Second,
-        k,
-        mask,
+    let table = Table {
         rows,
         events,
         start,
         cells,
         marks,
+    };
+    let k = answers::offset_of(offset);
+    let found = reduction::reduce_table(
+        ways::Way::Second,
+        k,
+        mask,
+        table,
         newcells,
         newmarks,
         scratch,
     );
-    answers::put_answer(answer, found);
+    answers::put_count(answer, found);
 }
 
 // Draws the table of a seed, as `load::generate` does.
@@ -245,10 +260,15 @@ pub extern "C" fn gelfost_last_run(
         (answer.new ≡ of_told a)
         × PromiseOfRun v g k mask T row bytes s a run.new scratch.new }
 {
+    let table = Table {
+        rows,
+        events,
+        start,
+        cells,
+        marks,
+    };
     let from = answers::offset_of(offset);
-    let told = last_run::last_run(
-        from, mask, rows, events, start, cells, marks, row, run, scratch,
-    );
+    let told = last_run::last_run(from, mask, table, row, run, scratch);
     answers::put_told(answer, told);
 }
 
@@ -273,8 +293,20 @@ pub extern "C" fn gelfost_compare(
         (answer.new ≡ of_ordered (ordered_by v (comparison T U)))
         × (scratch.new ≡ left_by v s (replicate (pair_cells rows rows2) 0)) }
 {
-    let ordered = order::compare(
-        rows, events, start, cells, marks, rows2, events2, start2, cells2, marks2, scratch,
-    );
+    let first = Table {
+        rows,
+        events,
+        start,
+        cells,
+        marks,
+    };
+    let second = Table {
+        rows: rows2,
+        events: events2,
+        start: start2,
+        cells: cells2,
+        marks: marks2,
+    };
+    let ordered = order::compare(first, second, scratch);
     answers::put_ordered(answer, ordered);
 }

@@ -25,7 +25,6 @@ use Rattle.measures.proofs.Cells.{run_fits, far-below}
 use Rattle.scratch.proofs.Numbers.{lt_or_ge}
 use Rattle.first_events.specs.Passes.{Ready}
 use Rattle.first_events.specs.Rounds.{first_at, Given, Reached}
-use Rattle.first_events.proofs.Turns.{end_known, event_known}
 
 pub first_sym : (s : List ℕ) (q p : ℕ) → first_at s q p ≡ first_at s p q
 first_sym s q p = ap (λ (x : ℕ). (measure_in x).first) (pair_sym s q p)
@@ -54,8 +53,8 @@ kind endless Unsettled h = never refl refl refl
 kind endless End h = absurd h
 kind endless (Event a) h = absurd h
 kind (len d) Unsettled h = alone d refl refl refl h
-kind (len d) End h = let r = settled_range d 32 h.0 h.1 (omega arith) in whole d refl end_known r.0 r.1
-kind (len d) (Event a) h = let r = settled_range d a h.0 h.1 (omega (arith, h.2)) in whole d refl (event_known a) r.0 r.1
+kind (len d) End h = let r = settled_range d 32 h.0 h.1 (omega arith) in whole d refl (λ e. cc) r.0 r.1
+kind (len d) (Event a) h = let r = settled_range d a h.0 h.1 (omega (arith, h.2)) in whole d refl (λ e. cc) r.0 r.1
 
 pub len-one : {x : Len} {c d : ℕ} → x ≡ len c → x ≡ len d → c ≡ d
 len-one e f = cc

@@ -1,6 +1,6 @@
 -- A pass over all pairs: what was made of a pair by the cells that there are now, is made of it by those before the pass.
 use mathlib.Core.Path.{◌≡◌, refl, sym, ap, subst, subst₂, ◌∙◌}
-use mathlib.Core.Bool.{Bool, true, false, true≢false}
+use mathlib.Core.Bool.{Bool, true, false, ◌||◌, true≢false}
 use mathlib.Core.List.{List}
 use mathlib.Core.Logic.{◌⊎◌, inl, inr, ⊎_elim}
 use Prim.Native.Nat.{ℕ, ◌+◌, ◌≤◌, ◌<◌}
@@ -191,6 +191,9 @@ module _ (pass : Pass) (E : Events) (M : Machine) (q p : ℕ) (x : ℕ) {s : Lis
   visited_new h = record { cell = x; turned = t; put = h ∙ ap (λ (k : ℕ). set s k x) ha; kept = λ e. absurd (true≢false e) }
 
 -- ---- passes over some pairs, one after the other
+neither : (a b : Bool) → a || b ≡ false → (a ≡ false) × (b ≡ false)
+neither true b e = absurd (true≢false e)
+neither false b e = (refl, e)
 
 -- The cells of a row end where those of the next begin.
 pub triangle-more : (q : ℕ) → triangle q + q ≡ triangle (q + 1)
@@ -215,8 +218,5 @@ module _ {pass : Pass} {E : Events} {M : Machine} {from mid to : ℕ} {s t u : L
   both_go : (s₀ : List ℕ) → Sound E M → triangle M.rows ≤ length s₀ → Before pass E M (pair_at s₀) → Sweeping pass E M from s₀ s → Sweeping pass E M to s₀ u
   both_go s₀ so room h w = y.goes s₀ so room h (x.goes s₀ so room h w)
 
-  pub swept_hit : b ≡ true → Swept pass E M from to s u true
-  swept_hit e = record { goes = both_go; size = y.size ∙ x.size; kept = λ h. absurd (true≢false h) }
-
-  pub swept_miss : b ≡ false → Swept pass E M from to s u a
-  swept_miss e = record { goes = both_go; size = y.size ∙ x.size; kept = λ h. y.kept e ∙ x.kept h }
+  pub swept_then : Swept pass E M from to s u (a || b)
+  swept_then = record { goes = both_go; size = y.size ∙ x.size; kept = λ e. let w = neither a b e in y.kept w.1 ∙ x.kept w.0 }

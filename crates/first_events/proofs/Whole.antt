@@ -31,17 +31,8 @@ use Rattle.first_events.proofs.Sweeps.{sweeping_begins}
 use Rattle.first_events.proofs.Ends.{reached-first}
 use Rattle.first_events.proofs.OneRound.{before-settling, told-last, told-all, reached-next}
 
-pub framed_none : (M : Machine) (s : List ℕ) → Framed M s s
-framed_none M s = record { size = refl; rest = refl }
-
-pub framed_then : {M : Machine} {s t u : List ℕ} → Framed M s t → Framed M t u → Framed M s u
-framed_then a b = record { size = b.size ∙ a.size; rest = b.rest ∙ a.rest }
-
 pub given_framed : {E : Events} {M : Machine} {s t : List ℕ} → Given E M s → length t ≡ length s → Given E M t
 given_framed g f = record { sound = g.sound; few_rows = g.few_rows; few_events = g.few_events; room = omega (arith, f, g.room) }
-
-pub reached-at : {E : Events} {M : Machine} {s : List ℕ} {l n : ℕ} → l ≡ n → Reached E M l s → Reached E M n s
-reached-at {E} {M} {s} e r = subst (λ (n : ℕ). Reached E M n s) e r
 
 module _ {E : Events} {M : Machine} {s : List ℕ} (g : Given E M s) (z : Light E) where
   -- ---- a round
@@ -68,9 +59,6 @@ module _ {E : Events} {M : Machine} {s : List ℕ} (g : Given E M s) (z : Light 
       }
 
   -- ---- rounds
-  pub rounds_last : {most : ℕ} {t u : List ℕ} {b : Bool} (l : ℕ) → l + 2 ≤ most → Framed M s t → Reached E M l t → Rounded E M most t u b → b ≡ false → Searched E M s u
-  rounds_last l h f r y e = record { framed = framed_then f (y.framed l h r); complete = y.last l h r e }
-
   pub rounds-all : {t : List ℕ} (l : ℕ) → M.rows ≤ l + 2 → Framed M s t → Reached E M l t → Searched E M s t
   rounds-all l h f r = record { framed = f; complete = told-all (given_framed g f.size) z r h }
 
@@ -81,9 +69,6 @@ module _ {E : Events} {M : Machine} {s : List ℕ} (g : Given E M s) (z : Light 
 
     pub ends-reached : Reached E M 0 t
     ends-reached = reached-first g z far ending
-
-    pub ends-then : {u : List ℕ} → Searched E M t u → Searched E M s u
-    ends-then y = record { framed = framed_then (record { size = ending.size; rest = ending.rest }) y.framed; complete = y.complete }
 
 -- ---- the whole of it, on a table
 module _ (mask rows events start : ℕ) (cells marks s : List ℕ) where

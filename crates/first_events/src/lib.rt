@@ -1,10 +1,9 @@
 #![tactic(auto)]
 // The distance of each pair of rows with the first event of its chosen run, or the run's end: from the distances, in rounds over the length of the run in all its events.
-ghost use Rattle.std.specs.Prelude.{◌≡◌, ◌+◌, ◌≤◌, ◌<◌, length};
+ghost use Rattle.std.specs.Prelude.{◌≡◌, ◌+◌, ◌≤◌, ◌<◌, length, MatchOption};
 ghost use Rattle.rules.specs.Rules.{table_of};
 ghost use Rattle.row_starts.specs.RowStarts.{starts_of_rows};
 ghost use Rattle.scratch.specs.Tests.{Tested};
-ghost use Rattle.chosen.specs.declared.First.TheVariants.{Unsettled};
 ghost use Rattle.pairs.specs.Pairs.{triangle, pair_at, workable};
 ghost use Rattle.measures.specs.Measures.{settled_at};
 ghost use Rattle.scratch.specs.Scratch.{machine_by};
@@ -24,6 +23,7 @@ pub enum Pass {
 }
 
 // The cell of a settled pair.
+#[tactic(auto, unfolding(measures::specs::Measures::settled_at))]
 fn mixed(distance: u16, number: u16) -> u16
     requires { (distance < 1024) × (number ≤ 32) }
     ensures { result ≡ settled_at distance number }
@@ -31,19 +31,7 @@ fn mixed(distance: u16, number: u16) -> u16
     33 * (distance + 31) + number
 }
 
-// Whether anything is known of a run.
-fn known(first: First) -> bool
-    ensures { Tested result (first ≡ Unsettled → ⊥) }
-{
-    match first {
-        First::Unsettled => false,
-        First::End => true,
-        First::Event(_) => true,
-    }
-}
-
 // The first pass: where two rows are at distance 1 and their marks differ, their run is at its end.
-#[tactic(auto, using(crate::proofs::Turns::ended_other))]
 fn ended(
     mask: u32,
     rows: u16,
@@ -58,10 +46,7 @@ fn ended(
     requires { cell ≡ pair_at scratch.now q p }
     ensures { Ended (events_by mask events) (machine_by rows events cells.now marks.now) (pair_at scratch.now) q p result }
 {
-    if cell != 1 {
-        return cell;
-    }
-    if marks::mark(marks, rules::wide(q)) == marks::mark(marks, rules::wide(p)) {
+    if cell != 1 || marks::mark(marks, q as usize) == marks::mark(marks, p as usize) {
         return cell;
     }
     mixed(1, 32)
@@ -87,16 +72,15 @@ fn ready(
     let i = scratch::target(cells, events, q, event);
     let j = scratch::target(cells, events, p, event);
     let led = measures::between(starts, scratch, i, j);
-    let far = led.distance;
-    let first = led.first;
-    if known(first) {
-        return rules::wide(far) + rules::wide(weights::weight(mask, event))
-            == rules::wide(distance);
+    match led.first {
+        First::Unsettled => false,
+        First::End | First::Event(_) => {
+            led.distance as usize + weights::weight(mask, event) as usize == distance as usize
+        }
     }
-    false
 }
 
-// The lowest event that is ready; the number of events if none is.
+// The lowest event that is ready.
 fn first_ready(
     mask: u32,
     rows: u16,
@@ -108,20 +92,19 @@ fn first_ready(
     distance: u16,
     q: u16,
     p: u16,
-) -> u16
+) -> Option<u16>
     requires { starts.now ≡ starts_of_rows }
-    ensures { Lowest (events_by mask events) (machine_by rows events cells.now marks.now) (pair_at scratch.now) distance q p events result }
+    ensures { let L = Lowest (events_by mask events) (machine_by rows events cells.now marks.now) (pair_at scratch.now) distance q p events in
+        MatchOption result (L events) (λ event. (event < events) × L event) }
 {
-    let mut event = 0;
-    while event < events {
+    for event in 0..events {
         if ready(
             mask, rows, events, cells, marks, starts, scratch, distance, q, p, event,
         ) {
-            return event;
+            return Some(event);
         }
-        event += 1;
     }
-    events
+    None
 }
 
 // In a round, an unsettled pair takes the lowest event that is ready.
@@ -146,13 +129,12 @@ fn taken(
     if most < cell {
         return cell;
     }
-    let event = first_ready(
+    match first_ready(
         mask, rows, events, cells, marks, starts, scratch, cell, q, p,
-    );
-    if event < events {
-        return 1024 + event;
+    ) {
+        Some(event) => 1024 + event,
+        None => cell,
     }
-    cell
 }
 
 // After it, a pair that took an event is settled.
@@ -172,18 +154,14 @@ fn settled(
     requires cell_value { cell ≡ pair_at scratch.now q p }
     ensures { Settled (events_by mask events) (machine_by rows events cells.now marks.now) (pair_at scratch.now) q p result }
 {
-    if cell < 1024 {
-        return cell;
-    }
-    if 1056 <= cell {
+    if !(1024..1056).contains(&cell) {
         return cell;
     }
     let event = cell - 1024;
     let i = scratch::target(cells, events, q, event);
     let j = scratch::target(cells, events, p, event);
     let led = measures::between(starts, scratch, i, j);
-    let far = led.distance;
-    let distance = rules::wide(far) + rules::wide(weights::weight(mask, event));
+    let distance = led.distance as usize + weights::weight(mask, event) as usize;
     if 1024 <= distance {
         return cell;
     }
@@ -237,7 +215,7 @@ fn visit(
     requires p_lt_q { (p < q) × (events ≤ 32) }
     ensures { Visited pass (events_by mask events) (machine_by rows events cells.now marks.now) q p scratch.old scratch.new result }
 {
-    let at = pairs::row_start(starts, q) + rules::wide(p);
+    let at = pairs::row_start(starts, q) + p as usize;
     let cell = scratch::cell(scratch, at);
     let next = turn(
         pass, mask, rows, events, cells, marks, starts, scratch, q, p, cell,
@@ -266,15 +244,10 @@ fn sweep_row(
     ensures { Swept pass (events_by mask events) (machine_by rows events cells.now marks.now) (triangle q) (triangle q + q) scratch.old scratch.new result }
 {
     let mut changed = false;
-    let mut p = 0;
-    while p < q {
-        let hit = visit(
+    for p in 0..q {
+        changed |= visit(
             pass, mask, rows, events, cells, marks, starts, scratch, q, p,
         );
-        p += 1;
-        if hit {
-            changed = true;
-        }
     }
     changed
 }
@@ -294,13 +267,8 @@ fn sweep(
 {
     let starts = row_starts::table();
     let mut changed = false;
-    let mut q = 0;
-    while q < rows {
-        let hit = sweep_row(pass, mask, rows, events, cells, marks, &starts, scratch, q);
-        q += 1;
-        if hit {
-            changed = true;
-        }
+    for q in 0..rows {
+        changed |= sweep_row(pass, mask, rows, events, cells, marks, &starts, scratch, q);
     }
     changed
 }
@@ -332,12 +300,10 @@ fn rounds(mask: u32, rows: u16, events: u16, cells: &[u16], marks: &[u8], scratc
     requires reached { Reached (events_by mask events) (machine_by rows events cells.now marks.now) 0 scratch.old }
     ensures { Searched (events_by mask events) (machine_by rows events cells.now marks.now) scratch.old scratch.new }
 {
-    let mut most = 2;
-    while most < rows {
+    for most in 2..rows {
         if !round(mask, rows, events, cells, marks, scratch, most) {
             return;
         }
-        most += 1;
     }
 }
 

@@ -9,7 +9,7 @@ mod folds;
 
 // The row into which each row folds, with the weights of events by a mask. Answers false, and does nothing, unless the table is valid and scratch has room.
 pub fn fold_rows(
-    offset: rules::Offset,
+    offset: Option<u16>,
     mask: u32,
     rows: usize,
     events: usize,

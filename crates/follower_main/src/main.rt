@@ -1,68 +1,64 @@
 #![tactic(auto)]
 // A follower over more events than its count holds, over runs with events that do not count, and the refusals of an event:
 // 5, 11, 4 and 16. Lines are put into one buffer, each function from a place on.
-use follower::{Begun, Outcome, Shown};
+use follower::{Outcome, Shown};
 use following::Follower;
 use lines::put_refusal;
-use rules::{Offset, Verdict};
+use rules::{Refusal, Table};
 use std::io;
 use text::{put_byte, put_cell, put_number, put_text};
 
+// A refusal's rule and place.
+fn put_refused(out: &mut [u8], at: usize, refusal: Refusal) -> usize {
+    put_refusal(out, at, refusal.rule.number(), refusal.place)
+}
+
 // A mark, and whether it is settled.
-fn put_shown(out: &mut [u8], at: usize, s: Shown) -> usize {
-    match s {
-        Shown::Refused(number, place) => put_refusal(out, at, number, place),
-        Shown::Mark(ready, settled) => {
-            if ready {
-                if settled {
-                    return put_text(out, at, b" ready settled");
-                }
-                return put_text(out, at, b" ready open");
-            }
-            if settled {
-                return put_text(out, at, b" wait settled");
-            }
-            put_text(out, at, b" wait open")
-        }
+fn put_shown(out: &mut [u8], at: usize, said: Result<Shown, Refusal>) -> usize {
+    match said {
+        Err(refusal) => put_refused(out, at, refusal),
+        Ok(shown) => match (shown.ready, shown.settled) {
+            (true, true) => put_text(out, at, b" ready settled"),
+            (true, false) => put_text(out, at, b" ready open"),
+            (false, true) => put_text(out, at, b" wait settled"),
+            (false, false) => put_text(out, at, b" wait open"),
+        },
     }
 }
 
-// What a follower answers at an offset. Rows 0 to 2 are a ring: event 0 leads to the next row, event 1 to the one before. Rows 3 and 4
-// change places with each event. Rows 1 and 4 are ready.
-fn put_answer(out: &mut [u8], at: usize, k: Offset, f: Follower) -> usize {
-    let s = follower::answer(k, f, 5, 2, 3, &[1, 2, 2, 0, 0, 1, 4, 4, 3, 3], &[18]);
-    put_shown(out, at, s)
+// Rows 0 to 2 are a ring: event 0 leads to the next row, event 1 to the one before. Rows 3 and 4 change places with each event. Rows 1 and 4 are ready.
+fn ring() -> Table<'static> {
+    Table {
+        rows: 5,
+        events: 2,
+        start: 3,
+        cells: &[1, 2, 2, 0, 0, 1, 4, 4, 3, 3],
+        marks: &[18],
+    }
+}
+
+// What a follower answers at an offset.
+fn put_answer(out: &mut [u8], at: usize, k: Option<u16>, f: Follower) -> usize {
+    put_shown(out, at, follower::answer(k, f, ring()))
 }
 
 // What it answers at two offsets and at none.
 fn put_answers(out: &mut [u8], at: usize, first: u16, second: u16, f: Follower) -> usize {
-    let mut next = put_answer(out, at, Offset::Number(first), f);
-    next = put_answer(out, next, Offset::Number(second), f);
-    next = put_answer(out, next, Offset::None, f);
+    let mut next = put_answer(out, at, Some(first), f);
+    next = put_answer(out, next, Some(second), f);
+    next = put_answer(out, next, None, f);
     put_byte(out, next, b'\n')
 }
 
 // The follower after an event on the same table.
 fn moved(mask: u32, f: Follower, event: usize) -> Follower {
-    let s = follower::stepped(
-        f,
-        mask,
-        5,
-        2,
-        3,
-        &[1, 2, 2, 0, 0, 1, 4, 4, 3, 3],
-        &[18],
-        event,
-    );
-    s.to
+    follower::stepped(f, mask, ring(), event).to
 }
 
 // The follower after n events: it is shown after few, and when its count is full.
 fn put_some(out: &mut [u8], at: usize, n: usize, f: Follower) -> usize {
-    if 5 <= n {
-        if n <= 65533 {
-            return at;
-        }
+    if (5..65534).contains(&n) {
+        return at;
     }
     let worded = put_text(out, at, b"events ");
     let numbered = put_number(out, worded, n);
@@ -82,9 +78,9 @@ fn long_run(out: &mut [u8], at: usize, start: Follower) -> usize {
 
 // The run over the count's end, from the start.
 fn run(out: &mut [u8]) -> usize {
-    match follower::begin(5, 2, 3, &[1, 2, 2, 0, 0, 1, 4, 4, 3, 3], &[18]) {
-        Begun::At(f) => long_run(out, 0, f),
-        Begun::Refused(number, place) => put_refusal(out, 0, number, place),
+    match follower::begin(ring()) {
+        Ok(f) => long_run(out, 0, f),
+        Err(refusal) => put_refused(out, 0, refusal),
     }
 }
 
@@ -102,7 +98,7 @@ fn put_in_ring(out: &mut [u8], at: usize, event: usize, f: Follower) -> usize {
     next = put_number(out, next, event);
     next = put_byte(out, next, b' ');
     next = put_state(out, next, f);
-    next = put_answer(out, next, Offset::Number(0), f);
+    next = put_answer(out, next, Some(0), f);
     put_answers(out, next, 1, 2, f)
 }
 
@@ -118,10 +114,10 @@ fn ring_run(out: &mut [u8], at: usize, mask: u32, events: &[usize]) -> usize {
 }
 
 // What a step said.
-fn put_verdict(out: &mut [u8], at: usize, v: Verdict) -> usize {
-    match v {
-        Verdict::Refused(number, place) => put_refusal(out, at, number, place),
-        Verdict::Fine => put_text(out, at, b"taken\n"),
+fn put_verdict(out: &mut [u8], at: usize, verdict: Result<(), Refusal>) -> usize {
+    match verdict {
+        Err(refusal) => put_refused(out, at, refusal),
+        Ok(()) => put_text(out, at, b"taken\n"),
     }
 }
 
@@ -137,8 +133,14 @@ fn put_outcome(out: &mut [u8], at: usize, s: Outcome) -> usize {
 // One event on three rows of two events, of which the targets of row 1 are no rows.
 fn one_event(out: &mut [u8], at: usize, mask: u32, row: u16, event: usize) -> usize {
     let f = Follower { row, count: 0 };
-    let s = follower::stepped(f, mask, 3, 2, 0, &[1, 2, 3, 4, 0, 0], &[0], event);
-    put_outcome(out, at, s)
+    let table = Table {
+        rows: 3,
+        events: 2,
+        start: 0,
+        cells: &[1, 2, 3, 4, 0, 0],
+        marks: &[0],
+    };
+    put_outcome(out, at, follower::stepped(f, mask, table, event))
 }
 
 // Both events counted: one is taken, the others are refused.
@@ -153,8 +155,14 @@ fn all_counted(out: &mut [u8], at: usize) -> usize {
 // The last of 32 events counted, on a table of one row.
 fn last_counted(out: &mut [u8], at: usize, event: usize) -> usize {
     let f = Follower { row: 0, count: 0 };
-    let s = follower::stepped(f, 2147483648, 1, 32, 0, &[0; 32], &[0], event);
-    put_outcome(out, at, s)
+    let table = Table {
+        rows: 1,
+        events: 32,
+        start: 0,
+        cells: &[0; 32],
+        marks: &[0],
+    };
+    put_outcome(out, at, follower::stepped(f, 2147483648, table, event))
 }
 
 // A bit that belongs to no event: the lowest, the highest; then where 4, 11 and 5 are broken too.

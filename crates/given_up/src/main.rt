@@ -1,18 +1,24 @@
 #![tactic(auto)]
 // `given_up`: reads an offset, a mask of the events that count and an image from standard input, and prints what each folded row gives up, or the refusal.
+ghost use Rattle.loss_desk.specs.Printed.{printed};
+
 use std::io;
 
-// Input that fills the buffer is longer than any sound one, and is refused whatever follows. There is room for all of the text
-// (`short` in crates/loss_desk/proofs/Short.antt).
-fn main(rt: HostRuntime) -> io::Result<()> {
-    let mut source = rt.stdin();
-    let mut input = [0u8; 65536];
-    let n = input::read_full(&mut source, &mut input)?;
-    if !input::all_read(&mut source, n, 65536)? {
-        return Err(io::Error::other("given_up: standard input"));
+// The text is made by `loss_desk`; there is room for all of it (`short` in crates/loss_desk/proofs/Short.antt).
+struct GivenUp;
+
+impl filters::Desk for GivenUp {
+    ghost printed = { printed };
+
+    fn write(input: &[u8], out: &mut [u8]) -> usize {
+        loss_desk::write_loss_text(input, out)
     }
-    let mut out = [0u8; 65536];
-    let length = loss_desk::write_loss_text(&input[..n], &mut out);
-    printing::print(&mut rt.stdout(), &out, length)?;
-    Ok(())
+}
+
+fn main(rt: HostRuntime) -> io::Result<()> {
+    filters::run::<GivenUp, _, _>(
+        "given_up: standard input",
+        &mut rt.stdin(),
+        &mut rt.stdout(),
+    )
 }

@@ -1,20 +1,25 @@
 -- What a number in an image gives.
-use Rattle.std.specs.Prelude.{List, ℕ, ◌+◌, ltb, length}
-use Rattle.rules.specs.Rules.{rule}
-use Rattle.rules.specs.declared.Verdict.{Verdict}
-use Rattle.rules.specs.declared.Verdict.TheVariants.{Fine, Refused}
+use Rattle.std.specs.Prelude.{List, ℕ, ◌+◌, ltb, length, Result, Ok, Err}
+use Rattle.rules.specs.Rules.{Verdict, rule}
+use Rattle.rules.specs.declared.Rule.TheVariants.{Short}
+use Rattle.rules.specs.declared.Refusal.{Refusal}
 use Rattle.images.specs.Image.{number_at}
-use Rattle.image_numbers.specs.declared.Section.{Section}
-use Rattle.image_numbers.specs.declared.Section.TheVariants as section
+
+-- What a section gives: its value and the place after it, or a refusal.
+abbrev pub Section : Type 0
+Section = Result (ℕ × ℕ) Refusal
+
+abbrev pub got : ℕ → ℕ → Section
+got value next = Ok (value, next)
 
 -- The image ends before the place; place of the refusal: its length.
 abbrev pub cut_rule : List ℕ → ℕ → Verdict
-cut_rule b end = rule 8 (ltb (length b) end) (length b)
+cut_rule b end = rule Short (ltb (length b) end) (length b)
 
--- What a section gives once the checks before it are made.
-abbrev pub checked : Verdict → Section → Section
-checked Fine s = s
-checked (Refused number place) s = section.Refused number place
+-- What is found once the checks before it are made.
+abbrev pub checked : {A : Type 0} → Verdict → Result A Refusal → Result A Refusal
+checked (Ok u) found = found
+checked (Err r) found = Err r
 
 unfoldable pub number_section : List ℕ → ℕ → Section
-number_section b at = checked (cut_rule b (at + 2)) (section.Got (number_at b at) (at + 2))
+number_section b at = checked (cut_rule b (at + 2)) (got (number_at b at) (at + 2))

@@ -5,28 +5,13 @@ ghost use Rattle.images.specs.Image.{number_at, target_at};
 ghost use Rattle.image_numbers.specs.Numbers.{number_section};
 
 use images::Form;
-
-// What a section gives: its value and the place after it, or the number and place of the rule that it breaks.
-#[derive(Clone, Copy)]
-pub enum Section {
-    Got(usize, usize),
-    Refused(usize, usize),
-}
-
-fn wide(x: u8) -> usize
-    ensures { result ≡ x }
-{
-    x as usize
-}
+use rules::{Refusal, Rule};
 
 // The byte so many behind a place; 0 beyond the image.
 fn byte(image: &[u8], at: usize, more: usize) -> u8
     ensures { result ≡ get_or image.now (at + more) 0 }
 {
-    if image.len() <= at {
-        return 0;
-    }
-    if image.len() - at <= more {
+    if image.len() <= at || image.len() - at <= more {
         return 0;
     }
     image[at + more]
@@ -36,21 +21,19 @@ fn byte(image: &[u8], at: usize, more: usize) -> u8
 fn word(image: &[u8], at: usize) -> usize
     ensures { result ≡ number_at image.now at }
 {
-    wide(byte(image, at, 0)) + 256 * wide(byte(image, at, 1))
+    byte(image, at, 0) as usize + 256 * byte(image, at, 1) as usize
 }
 
-// The number at a place, and the place after it.
-pub fn number(image: &[u8], at: usize) -> Section
+// The number at a place, and the place after it; or the refusal of an image that ends before.
+#[tactic(auto, unfolding(crate::specs::Numbers::number_section))]
+pub fn number(image: &[u8], at: usize) -> Result<(usize, usize), Refusal>
     ensures { result ≡ number_section image.now at }
 {
     let n = image.len();
-    if n < 2 {
-        return Section::Refused(8, n);
+    if n < 2 || n - 2 < at {
+        return Err(Rule::Short.at(n));
     }
-    if n - 2 < at {
-        return Section::Refused(8, n);
-    }
-    Section::Got(word(image, at), at + 2)
+    Ok((word(image, at), at + 2))
 }
 
 // The target of a row that stands at a place.

@@ -1,5 +1,5 @@
 -- What an accepted image holds: the reader accepts exactly the bytes of which this is true.
-use mathlib.Core.Path.{◌≡◌, refl, sym, ◌∙◌}
+use mathlib.Core.Path.{◌≡◌, refl, sym, ap, ◌∙◌}
 use mathlib.Core.Bool.{Bool, true, false}
 use mathlib.Core.List.{List}
 use mathlib.Core.Logic.{◌↔◌}
@@ -13,16 +13,15 @@ use borrow.Author.Tests.{eqb-true, eq-eqb, not-false, leb-false, ltb-false, lt-l
 use Rattle.tables.specs.Table.{Valid, mark_byte_count}
 use Rattle.tables.proofs.Lists.{tabulate-length, tabulate-at}
 use Rattle.marks.proofs.Laws.{spare_clear}
-use Rattle.rules.specs.Rules.{judged, winch}
-use Rattle.rules.specs.declared.Verdict.{Verdict}
-use Rattle.rules.specs.declared.Verdict.TheVariants.{Fine, Refused}
+use Rattle.rules.specs.Rules.{Verdict, sound, judged, winch}
 use Rattle.marks.specs.Marks.{spare_bits_set}
 use Rattle.rules.specs.declared.Limits.{Limits}
 use Rattle.images.specs.Image.{width, target_at, length_of_image, number_at, targets_at, start_at, end_at, marks_of, cells_of, table_as}
 use Rattle.images.specs.declared.Form.{Form}
-use Rattle.image_sections.specs.Read.{targets_rule, end_checks, read_checks, read_of, answered}
-use Rattle.image_sections.specs.declared.Read.{Read}
-use Rattle.image_sections.specs.declared.Read.TheVariants as read
+use Rattle.image_sections.specs.Read.{shape, targets_rule, end_checks, read_checks, read_of}
+use Rattle.image_numbers.specs.Numbers.{checked}
+use Rattle.image_sections.specs.declared.Shape.{Shape}
+use Rattle.std.specs.Prelude.{Ok, Err}
 use Rattle.images.proofs.Numbers.{Bytes, take_bytes, drop_bytes}
 use Rattle.rules.proofs.Checks.{unbroken, passed, passed-behind, inside, all_inside}
 use Rattle.automata.proofs.Tests.{clash}
@@ -44,7 +43,7 @@ pub record Reads (F : Form) (b : List ℕ) (rows count one start : ℕ) : Type 0
 
 -- The reader's answer, from the numbers that stand in the bytes.
 image-checks : (alone : Bool) (F : Form) (L : Limits) (few : ℕ → Verdict) (b : List ℕ) (rows count one start : ℕ) → Reads F b rows count one start
-    → read_of alone F L few b ≡ answered (judged (read_checks alone F L few b rows count one start)) (read.Table rows (count / rows) start)
+    → read_of alone F L few b ≡ checked (judged (read_checks alone F L few b rows count one start)) (Ok (shape rows (count / rows) start))
 unfolding read_of
 image-checks alone F L few b rows count one start n = rw (n.rows_at, n.count_at, n.one_at, n.starts_at)
 
@@ -55,26 +54,30 @@ image_checks alone F few b rows events start = read_checks alone F winch few b r
 -- Of an image that stands alone nothing is left over.
 pub record Accepted (alone : Bool) (F : Form) (few : ℕ → Verdict) (b : List ℕ) (rows events start : ℕ) : Type 0 where
   pub valid : Valid (table_as F b rows events start)
-  pub few_rows : few rows ≡ Fine
+  pub few_rows : few rows ≡ sound
   pub whole : length_of_image F rows events ≤ length b
   pub ends : alone ≡ true → length b ≤ length_of_image F rows events
   pub reads : Reads F b rows (rows * events) 1 start
 
 -- The last check is that of 10, where it is asked.
-end-fine : (alone : Bool) (b : List ℕ) (end : ℕ) → (judged (end_checks alone b end) ≡ Fine) ↔ (alone ≡ true → length b ≤ end)
+end-fine : (alone : Bool) (b : List ℕ) (end : ℕ) → (judged (end_checks alone b end) ≡ sound) ↔ (alone ≡ true → length b ≤ end)
 end-fine true b end = (λ e h. ltb-false end (length b) (unbroken _ _ _ (passed (end_checks true b end) e 0)), λ h. rw (le-ltb end (length b) (h refl)))
 end-fine false b end = (λ e h. clash h refl, λ h. refl)
 
-answered-table : (v : Verdict) (r : Read) (rows events start : ℕ) → answered v r ≡ read.Table rows events start → (v ≡ Fine) × (r ≡ read.Table rows events start)
-answered-table Fine r rows events start e = (refl, e)
-answered-table (Refused number place) r rows events start e = let z : ◌≡◌ {A = ℕ} 0 1 = cc in absurd (omega arith)
+checked-shape : (v : Verdict) (s : Shape) (rows events start : ℕ) → checked v (Ok s) ≡ Ok (shape rows events start) → (v ≡ sound) × (s ≡ shape rows events start)
+checked-shape (Ok u) s rows events start e = (refl, cc)
+checked-shape (Err r) s rows events start e = let z : ◌≡◌ {A = ℕ} 0 1 = cc in absurd (omega arith)
+
+-- A count that is a multiple of the rows is that of all targets.
+all_targets : (c r rows events : ℕ) → r ≡ rows → c / r ≡ events → c % r ≡ 0 → c ≡ rows * events
+all_targets c r rows events same event multiple = cc (div-add-mod c r, add-zero (rows * events))
 
 module _ (alone : Bool) (F : Form) (few : ℕ → Verdict) (b : List ℕ) (bytes : Bytes b) (rows events start : ℕ) where
   abbrev end : ℕ
   end = end_at F rows (rows * events)
 
   -- `at i` is check i of the row, counted from 0.
-  fine_accepted : judged (image_checks alone F few b rows events start) ≡ Fine → Reads F b rows (rows * events) 1 start → Accepted alone F few b rows events start
+  fine_accepted : judged (image_checks alone F few b rows events start) ≡ sound → Reads F b rows (rows * events) 1 start → Accepted alone F few b rows events start
   fine_accepted e n =
       let at = passed (image_checks alone F few b rows events start) e in
       let row = (inside 1024 rows).0 (unbroken _ _ _ (at 1)) in
@@ -82,7 +85,7 @@ module _ (alone : Bool) (F : Form) (few : ℕ → Verdict) (b : List ℕ) (bytes
       let full : end ≤ length b = ltb-false _ _ (unbroken _ _ _ (at 12)) in
       let all : length (marks_of b rows) ≡ mark_byte_count rows = simp (length-take, length-drop) (omega arith) in
       let low : Bytes (marks_of b rows) = take_bytes (mark_byte_count rows) (drop 2 b) (drop_bytes 2 b bytes) in
-      let five : targets_rule F b rows (targets_at rows + 2) (rows * events) ≡ Fine = at 9 in
+      let five : targets_rule F b rows (targets_at rows + 2) (rows * events) ≡ sound = at 9 in
       let targets = rw (mul-div_cancel_left events row.0) at five in
       record {
         valid = record {
@@ -103,7 +106,7 @@ module _ (alone : Bool) (F : Form) (few : ℕ → Verdict) (b : List ℕ) (bytes
         reads = n;
       }
 
-  accepted_fine : Accepted alone F few b rows events start → judged (image_checks alone F few b rows events start) ≡ Fine
+  accepted_fine : Accepted alone F few b rows events start → judged (image_checks alone F few b rows events start) ≡ sound
   accepted_fine a =
       let v = a.valid in
       rw (
@@ -124,21 +127,21 @@ module _ (alone : Bool) (F : Form) (few : ℕ → Verdict) (b : List ℕ) (bytes
       ) ((end-fine alone b end).1 (λ h. omega (arith, a.ends h)))
 
   -- From the numbers that stand in the bytes to those of the answer.
-  read_accepted : (r c o s : ℕ) → Reads F b r c o s → judged (read_checks alone F winch few b r c o s) ≡ Fine
-      → read.Table r (c / r) s ≡ read.Table rows events start → Accepted alone F few b rows events start
+  read_accepted : (r c o s : ℕ) → Reads F b r c o s → judged (read_checks alone F winch few b r c o s) ≡ sound
+      → shape r (c / r) s ≡ shape rows events start → Accepted alone F few b rows events start
   read_accepted r c o s n e q =
       let at = passed (read_checks alone F winch few b r c o s) e in
-      let same : r ≡ rows = cc in
+      let same = ap (λ (x : Shape). x.rows) q in
       let multiple : c % r ≡ 0 = eqb-true _ 0 (not-false _ (unbroken _ _ _ (at 6))) in
-      let count : c ≡ rows * events = cc (div-add-mod c r, add-zero (rows * events)) in
+      let count = all_targets c r rows events same (ap (λ (x : Shape). x.events) q) multiple in
       let one : o ≡ 1 = eqb-true o 1 (not-false _ (unbroken _ _ _ (at 11))) in
-      let begin : s ≡ start = cc in
+      let begin = ap (λ (x : Shape). x.start) q in
       fine_accepted (rw (same, count, one, begin) at e) (rw (same, count, one, begin) at n)
 
-  pub accepted : (read_of alone F winch few b ≡ read.Table rows events start) ↔ Accepted alone F few b rows events start
+  pub accepted : (read_of alone F winch few b ≡ Ok (shape rows events start)) ↔ Accepted alone F few b rows events start
   accepted = (
     λ e. let n : Reads F b _ _ _ _ = record { rows_at = refl; count_at = refl; one_at = refl; starts_at = refl } in
-        let t = answered-table _ _ rows events start (sym (image-checks alone F winch few b _ _ _ _ n) ∙ e) in
+        let t = checked-shape _ _ rows events start (sym (image-checks alone F winch few b _ _ _ _ n) ∙ e) in
         read_accepted _ _ _ _ n t.0 t.1,
     λ a. image-checks alone F winch few b rows (rows * events) 1 start a.reads ∙ rw (accepted_fine a, mul-div_cancel_left events a.valid.some_row),
   )
@@ -151,15 +154,15 @@ pub record Holds (F : Form) (b : List ℕ) (rows events : ℕ) : Type 0 where
   pub targets_small : (i : ℕ) → i < rows * events → target_at F b (i / events) (targets_at rows + 2 + width F * i) ≤ 65535
 
 module _ (alone : Bool) (F : Form) (L : Limits) (few : ℕ → Verdict) (b : List ℕ) (bytes : Bytes b) (rows events start : ℕ) where
-  held : (r c o s : ℕ) → r ≤ 65535 → c ≤ 65535 → judged (read_checks alone F L few b r c o s) ≡ Fine → read.Table r (c / r) s ≡ read.Table rows events start → Holds F b rows events
+  held : (r c o s : ℕ) → r ≤ 65535 → c ≤ 65535 → judged (read_checks alone F L few b r c o s) ≡ sound → shape r (c / r) s ≡ shape rows events start → Holds F b rows events
   held r c o s few-r few-c e q =
       let at = passed (read_checks alone F L few b r c o s) e in
-      let same : r ≡ rows = cc in
-      let event : c / r ≡ events = cc in
+      let same = ap (λ (x : Shape). x.rows) q in
+      let event = ap (λ (x : Shape). x.events) q in
       let multiple : c % r ≡ 0 = eqb-true _ 0 (not-false _ (unbroken _ _ _ (at 6))) in
-      let count : c ≡ rows * events = cc (div-add-mod c r, add-zero (rows * events)) in
+      let count = all_targets c r rows events same event multiple in
       let full : start_at F r c ≤ length b = ltb-false _ _ (unbroken _ _ _ (at 8)) in
-      let five : targets_rule F b r (targets_at r + 2) c ≡ Fine = at 9 in
+      let five : targets_rule F b r (targets_at r + 2) c ≡ sound = at 9 in
       let row = (all_inside rows (cells_of F b rows events) (rows * events) (tabulate-length _ _)).0 (unbroken _ _ _ (rw (event, same, count) at five)) in
       record {
         fits = rw (same, count) at full;
@@ -168,12 +171,12 @@ module _ (alone : Bool) (F : Form) (L : Limits) (few : ℕ → Verdict) (b : Lis
         targets_small = λ i h. omega (arith, row i h, tabulate-at (rows * events) (λ j. target_at F b (j / events) (targets_at rows + 2 + width F * j)) i 0 h);
       }
 
-  pub read_holds : read_of alone F L few b ≡ read.Table rows events start → Holds F b rows events
+  pub read_holds : read_of alone F L few b ≡ Ok (shape rows events start) → Holds F b rows events
   read_holds e =
       let r : ℕ = number_at b 0 in
       let c : ℕ = number_at b (targets_at r) in
       let o : ℕ = number_at b (start_at F r c) in
       let s : ℕ = number_at b (start_at F r c + 2) in
       let n : Reads F b r c o s = record { rows_at = refl; count_at = refl; one_at = refl; starts_at = refl } in
-      let t = answered-table (judged (read_checks alone F L few b r c o s)) (read.Table r (c / r) s) rows events start (sym (image-checks alone F L few b r c o s n) ∙ e) in
+      let t = checked-shape (judged (read_checks alone F L few b r c o s)) (shape r (c / r) s) rows events start (sym (image-checks alone F L few b r c o s n) ∙ e) in
       held r c o s (omega (arith, bytes 0, bytes 1)) (omega (arith, bytes (targets_at r), bytes (targets_at r + 1))) t.0 t.1

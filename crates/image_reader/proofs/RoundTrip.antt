@@ -10,14 +10,12 @@ use lib.ListN.{length, drop, length-append, take-append-drop, drop_of_length-le}
 use lib.Seq.{drop-drop}
 use Rattle.tables.specs.Table.{Table, Valid, mark_byte_count}
 use Rattle.tables.proofs.Lists.{tabulate-length, tabulate-at}
-use Rattle.rules.specs.Rules.{winch}
-use Rattle.rules.specs.declared.Verdict.{Verdict}
-use Rattle.rules.specs.declared.Verdict.TheVariants.{Fine}
+use Rattle.rules.specs.Rules.{Verdict, sound, winch}
 use Rattle.images.specs.Image.{number, width, target_bytes, target_at, targets, image_of, image, length_of_image, Fits, number_at, targets_at, start_at, end_at, marks_of, cells_of, table_as, table_in}
 use Rattle.images.specs.declared.Form.{Form}
 use Rattle.images.specs.declared.Form.TheVariants.{Plain}
-use Rattle.image_sections.specs.Read.{read_of, image_read}
-use Rattle.image_sections.specs.declared.Read.TheVariants as read
+use Rattle.image_sections.specs.Read.{shape, read_of, image_read}
+use Rattle.std.specs.Prelude.{Ok}
 use Rattle.images.proofs.Numbers.{Bytes, append_bytes, number-at, number-on}
 use Rattle.images.proofs.Sections.{section_on}
 use Rattle.images.proofs.Targets.{target_near, target_on, width-below}
@@ -40,7 +38,7 @@ module _ (F : Form) (T : Table) (v : Valid T) (h : Fits F T) (r b : List ℕ) (e
   long : length b ≡ length_of_image F rows events + length r
   long = ap length e ∙ length-append (image_of F T) r ∙ ap (λ (n : ℕ). n + length r) (image-length F T v h)
 
-  image_accepted : (alone : Bool) → (alone ≡ true → r ≡ []) → (few : ℕ → Verdict) → few T.rows ≡ Fine → Accepted alone F few b T.rows T.events T.start
+  image_accepted : (alone : Bool) → (alone ≡ true → r ≡ []) → (few : ℕ → Verdict) → few T.rows ≡ sound → Accepted alone F few b T.rows T.events T.start
   image_accepted alone none few fine = record {
     valid = rw (image-table F T v h r b e) v;
     few_rows = fine;
@@ -49,18 +47,18 @@ module _ (F : Form) (T : Table) (v : Valid T) (h : Fits F T) (r b : List ℕ) (e
     reads = image_reads;
   }
 
-  pub front_read : (alone : Bool) → (alone ≡ true → r ≡ []) → (few : ℕ → Verdict) → few T.rows ≡ Fine → Bytes r
-      → read_of alone F winch few b ≡ read.Table T.rows T.events T.start
+  pub front_read : (alone : Bool) → (alone ≡ true → r ≡ []) → (few : ℕ → Verdict) → few T.rows ≡ sound → Bytes r
+      → read_of alone F winch few b ≡ Ok (shape T.rows T.events T.start)
   front_read alone none few fine low =
       (accepted alone F few b (rw e (append_bytes (image_of F T) r (image_bytes F T v h) low)) T.rows T.events T.start).1 (image_accepted alone none few fine)
 
 -- It is accepted.
-pub form_read : (F : Form) (T : Table) (few : ℕ → Verdict) → few T.rows ≡ Fine → Valid T → Fits F T → read_of true F winch few (image_of F T) ≡ read.Table T.rows T.events T.start
+pub form_read : (F : Form) (T : Table) (few : ℕ → Verdict) → few T.rows ≡ sound → Valid T → Fits F T → read_of true F winch few (image_of F T) ≡ Ok (shape T.rows T.events T.start)
 form_read F T few fine v h = front_read F T v h [] (image_of F T) (sym (append-nil (image_of F T))) true (λ t. refl) few fine (λ i. omega arith)
 
 -- ---- accepted bytes
 
-module _ (alone : Bool) (F : Form) (few : ℕ → Verdict) (b : List ℕ) (bytes : Bytes b) (rows events start : ℕ) (e : read_of alone F winch few b ≡ read.Table rows events start) where
+module _ (alone : Bool) (F : Form) (few : ℕ → Verdict) (b : List ℕ) (bytes : Bytes b) (rows events start : ℕ) (e : read_of alone F winch few b ≡ Ok (shape rows events start)) where
   abbrev T : Table
   T = table_as F b rows events start
 
@@ -72,7 +70,7 @@ module _ (alone : Bool) (F : Form) (few : ℕ → Verdict) (b : List ℕ) (bytes
   row_at i h = omega (arith, a.valid.cells_in i (rw tabulate-length h), tabulate-at (rows * events) (λ j. target_at F b (j / events) (targets_at rows + 2 + width F * j)) i 0 h, a.valid.rows_fit)
 
   -- The table read is valid, its targets fit the form, and its row count is one that is asked for.
-  pub form_valid : Valid (table_as F b rows events start) × Fits F (table_as F b rows events start) × (few rows ≡ Fine)
+  pub form_valid : Valid (table_as F b rows events start) × Fits F (table_as F b rows events start) × (few rows ≡ sound)
   form_valid = (a.valid, near, a.few_rows)
     where
       near : Fits F T
@@ -97,7 +95,7 @@ module _ (alone : Bool) (F : Form) (few : ℕ → Verdict) (b : List ℕ) (bytes
       cc (image_parts F T (drop (length_of_image F rows events) b), targets_on)
 
 -- Read and written again, they are the same bytes.
-pub read_form : (F : Form) (few : ℕ → Verdict) (b : List ℕ) → Bytes b → (rows events start : ℕ) → read_of true F winch few b ≡ read.Table rows events start
+pub read_form : (F : Form) (few : ℕ → Verdict) (b : List ℕ) → Bytes b → (rows events start : ℕ) → read_of true F winch few b ≡ Ok (shape rows events start)
     → image_of F (table_as F b rows events start) ≡ b
 read_form F few b bytes rows events start e =
     let a = (accepted true F few b bytes rows events start).0 e in
@@ -106,8 +104,8 @@ read_form F few b bytes rows events start e =
 
 -- They are the images of the valid tables whose targets fit the form, with a row count that is asked for, and nothing else.
 pub form_exactly : (F : Form) (few : ℕ → Verdict) (b : List ℕ) → Bytes b
-    → ((rows : ℕ) × (events : ℕ) × (start : ℕ) × (read_of true F winch few b ≡ read.Table rows events start))
-    ↔ ((T : Table) × Valid T × Fits F T × (few T.rows ≡ Fine) × (image_of F T ≡ b))
+    → ((rows : ℕ) × (events : ℕ) × (start : ℕ) × (read_of true F winch few b ≡ Ok (shape rows events start)))
+    ↔ ((T : Table) × Valid T × Fits F T × (few T.rows ≡ sound) × (image_of F T ≡ b))
 form_exactly F few b bytes = (
   λ (rows, events, start, e). let v = form_valid true F few b bytes rows events start e in (table_as F b rows events start, v.0, v.1, v.2, read_form F few b bytes rows events start e),
   λ (T, v, h, fine, e). (T.rows, T.events, T.start, rw e at (form_read F T few fine v h)),
@@ -118,20 +116,20 @@ form_exactly F few b bytes = (
 fits_plain : (T : Table) → Fits Plain T
 fits_plain T i h = refl
 
-pub image_read_lem : (T : Table) (few : ℕ → Verdict) → few T.rows ≡ Fine → Valid T → image_read winch few (image T) ≡ read.Table T.rows T.events T.start
+pub image_read_lem : (T : Table) (few : ℕ → Verdict) → few T.rows ≡ sound → Valid T → image_read winch few (image T) ≡ Ok (shape T.rows T.events T.start)
 image_read_lem T few fine v = form_read Plain T few fine v (fits_plain T)
 
 module _ (few : ℕ → Verdict) (b : List ℕ) (bytes : Bytes b) where
-  pub read_valid : (rows events start : ℕ) → image_read winch few b ≡ read.Table rows events start → Valid (table_in b rows events start) × (few rows ≡ Fine)
+  pub read_valid : (rows events start : ℕ) → image_read winch few b ≡ Ok (shape rows events start) → Valid (table_in b rows events start) × (few rows ≡ sound)
   read_valid rows events start e = let v = form_valid true Plain few b bytes rows events start e in (v.0, v.2)
 
   -- Read and written again, it is the same bytes.
-  pub read_image : (rows events start : ℕ) → image_read winch few b ≡ read.Table rows events start → image (table_in b rows events start) ≡ b
+  pub read_image : (rows events start : ℕ) → image_read winch few b ≡ Ok (shape rows events start) → image (table_in b rows events start) ≡ b
   read_image rows events start e = read_form Plain few b bytes rows events start e
 
   -- Accepted are the images of the valid tables with a row count that is asked for, and nothing else: of all valid tables where no more is asked.
-  pub accepts_exactly : ((rows : ℕ) × (events : ℕ) × (start : ℕ) × (image_read winch few b ≡ read.Table rows events start))
-      ↔ ((T : Table) × Valid T × (few T.rows ≡ Fine) × (image T ≡ b))
+  pub accepts_exactly : ((rows : ℕ) × (events : ℕ) × (start : ℕ) × (image_read winch few b ≡ Ok (shape rows events start)))
+      ↔ ((T : Table) × Valid T × (few T.rows ≡ sound) × (image T ≡ b))
   accepts_exactly =
       let x = form_exactly Plain few b bytes in (
         λ y. let z = x.0 y in (z.0, z.1, z.3, z.4),

@@ -8,19 +8,16 @@ ghost use Rattle.images.specs.declared.Form.TheVariants.{Radio};
 ghost use Rattle.image_sections.specs.Read.{any_rows, at_most};
 ghost use Rattle.image_reader.specs.Read.{read_in_form, read_by, cells_as, cells_in, marks_in};
 
-use image_sections::Read;
+use image_sections::Shape;
 use images::Form;
+use rules::{Refusal, Rule};
 
 // Copies mark bytes from a place of the image on.
 fn copy_marks(image: &[u8], at: usize, count: usize, marks: &mut [u8])
     requires { (at + count ≤ length image.now) × (count ≤ length marks.old) }
     ensures { marks.new ≡ over marks.old 0 (take count (drop at image.now)) }
 {
-    let mut i = 0;
-    while i < count {
-        marks[i] = image[at + i];
-        i += 1;
-    }
+    marks[..count].copy_from_slice(&image[at..at + count]);
 }
 
 // Copies targets from a place of the image on.
@@ -29,10 +26,8 @@ fn copy_cells(form: Form, image: &[u8], at: usize, count: usize, events: usize, 
     ensures { cells.new ≡ over cells.old 0 (cells_at form image.now events at count) }
 {
     let width = images::width(form);
-    let mut i = 0;
-    while i < count {
+    for i in 0..count {
         cells[i] = image_numbers::target(form, image, (i / events) as u16, at + width * i) as u16;
-        i += 1;
     }
 }
 
@@ -46,27 +41,21 @@ pub fn read_as(
     image: &[u8],
     cells: &mut [u16],
     marks: &mut [u8],
-) -> Read
+) -> Result<Shape, Refusal>
     ensures { let b = image.now in let given = cells.old in let bytes = marks.old in
         (result ≡ read_in_form alone form limits (at_most small) b (length given) (length bytes))
         × (cells.new ≡ cells_as form result b given)
         × (marks.new ≡ marks_in result b bytes) }
 {
-    let judged = image_sections::judge(alone, form, limits, small, image);
-    let Read::Table(rows, events, start) = judged else {
-        return judged;
-    };
-    let count = rows * events;
-    if cells.len() < count {
-        return Read::Refused(7, 0);
-    }
-    let bytes = marks::mark_bytes(rows);
-    if marks.len() < bytes {
-        return Read::Refused(7, 0);
+    let shape = image_sections::judge(alone, form, limits, small, image)?;
+    let count = shape.rows * shape.events;
+    let bytes = marks::mark_bytes(shape.rows);
+    if cells.len() < count || marks.len() < bytes {
+        return Err(Rule::Room.at(0));
     }
     copy_marks(image, 2, bytes, marks);
-    copy_cells(form, image, 4 + bytes, count, events, cells);
-    Read::Table(rows, events, start)
+    copy_cells(form, image, 4 + bytes, count, shape.events, cells);
+    Ok(shape)
 }
 
 // Reads document 01's image of a table within limits and of few enough rows.
@@ -76,7 +65,7 @@ pub fn read_within(
     image: &[u8],
     cells: &mut [u16],
     marks: &mut [u8],
-) -> Read
+) -> Result<Shape, Refusal>
     ensures { let b = image.now in let given = cells.old in let bytes = marks.old in
         (result ≡ read_by limits (at_most small) b (length given) (length bytes))
         × (cells.new ≡ cells_in result b given)
@@ -86,7 +75,13 @@ pub fn read_within(
 }
 
 // Reads an image in a form of any table that the winch takes.
-pub fn read_form(alone: bool, form: Form, image: &[u8], cells: &mut [u16], marks: &mut [u8]) -> Read
+pub fn read_form(
+    alone: bool,
+    form: Form,
+    image: &[u8],
+    cells: &mut [u16],
+    marks: &mut [u8],
+) -> Result<Shape, Refusal>
     ensures { let b = image.now in let given = cells.old in let bytes = marks.old in
         (result ≡ read_in_form alone form winch any_rows b (length given) (length bytes))
         × (cells.new ≡ cells_as form result b given)
@@ -98,7 +93,7 @@ pub fn read_form(alone: bool, form: Form, image: &[u8], cells: &mut [u16], marks
 }
 
 // Document 01's reader: an image of any table that the winch takes.
-pub fn read_image(image: &[u8], cells: &mut [u16], marks: &mut [u8]) -> Read
+pub fn read_image(image: &[u8], cells: &mut [u16], marks: &mut [u8]) -> Result<Shape, Refusal>
     ensures { let b = image.now in let given = cells.old in let bytes = marks.old in
         (result ≡ read_by winch any_rows b (length given) (length bytes))
         × (cells.new ≡ cells_in result b given)
@@ -108,7 +103,7 @@ pub fn read_image(image: &[u8], cells: &mut [u16], marks: &mut [u8]) -> Read
 }
 
 // #102's reader: a radio image of any table that the winch takes.
-pub fn read_radio_image(image: &[u8], cells: &mut [u16], marks: &mut [u8]) -> Read
+pub fn read_radio_image(image: &[u8], cells: &mut [u16], marks: &mut [u8]) -> Result<Shape, Refusal>
     ensures { let b = image.now in let given = cells.old in let bytes = marks.old in
         (result ≡ read_in_form true Radio winch any_rows b (length given) (length bytes))
         × (cells.new ≡ cells_as Radio result b given)

@@ -1,65 +1,40 @@
 #![tactic(auto)]
-// What is judged of a table before its image is written, in either form; and what its writer answers.
+// What is judged of a table before its image is written, in either form.
 ghost use Rattle.std.specs.Prelude.{◌≡◌, ◌≤◌, ◌<◌, length};
-ghost use Rattle.rules.specs.Rules.{judged, table_of};
-ghost use Rattle.image_rules.specs.Checks.{first_far_step, form_checks, image_checks};
+ghost use Rattle.rules.specs.Rules.{judged, lent};
+ghost use Rattle.image_rules.specs.Checks.{steps_rule, form_checks, image_checks};
 
 use images::Form;
-use rules::Verdict;
-use steps::Step;
+use rules::{Refusal, Rule, Table};
 
-// The length of the image that was written, or the number and place of the first rule broken.
-#[derive(Clone, Copy)]
-pub enum Written {
-    Length(usize),
-    Refused(usize, usize),
-}
-
-// The place of the first cell whose step is too far; the number of cells if none is.
-fn first_far(events: usize, cells: &[u16]) -> usize
+// Whether each step fits a signed byte.
+fn check_steps(events: usize, cells: &[u16]) -> Result<(), Refusal>
     requires { (0 < events) × (length cells.now ≤ 65535) }
-    ensures { result ≡ first_far_step events cells.now }
+    ensures { result ≡ steps_rule events cells.now }
 {
-    let mut i = 0;
-    while i < cells.len() {
-        let Step::Small(_) = steps::step_to((i / events) as u16, cells[i]) else {
-            return i;
-        };
-        i += 1;
+    for (i, cell) in cells.iter().enumerate() {
+        if steps::step_to((i / events) as u16, *cell).is_none() {
+            return Err(Rule::Step.at(i));
+        }
     }
-    i
+    Ok(())
 }
 
 // What a form asks of the targets.
-fn check_targets(form: Form, events: usize, cells: &[u16]) -> Verdict
+fn check_targets(form: Form, events: usize, cells: &[u16]) -> Result<(), Refusal>
     requires { (0 < events) × (length cells.now ≤ 65535) }
     ensures { result ≡ judged (form_checks form events cells.now) }
 {
     match form {
-        Form::Plain => Verdict::Fine,
-        Form::Radio => {
-            let place = first_far(events, cells);
-            if place < cells.len() {
-                return Verdict::Refused(14, place);
-            }
-            Verdict::Fine
-        }
+        Form::Plain => Ok(()),
+        Form::Radio => check_steps(events, cells),
     }
 }
 
 // Rules 1 to 6, and 14 for a radio image.
-pub fn check_image(
-    form: Form,
-    rows: usize,
-    events: usize,
-    start: usize,
-    cells: &[u16],
-    marks: &[u8],
-) -> Verdict
-    ensures { result ≡ judged (image_checks form (table_of rows events start cells.now marks.now)) }
+pub fn check_image(form: Form, table: Table<'_>) -> Result<(), Refusal>
+    ensures { result ≡ judged (image_checks form (lent table.entry)) }
 {
-    match rules::check_table(rules::winch(), rows, events, start, cells, marks) {
-        Verdict::Refused(number, place) => Verdict::Refused(number, place),
-        Verdict::Fine => check_targets(form, events, cells),
-    }
+    rules::check_table(rules::winch(), table)?;
+    check_targets(form, table.events, table.cells)
 }

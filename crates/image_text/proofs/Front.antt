@@ -1,4 +1,4 @@
--- The bytes in front of an image, and rule 16 behind it.
+-- The bytes in front of an image, and rule Mask behind it.
 use mathlib.Core.Path.{◌≡◌, ap}
 use mathlib.Core.Bool.{Bool, true, false, cond}
 use mathlib.Core.List.{List, ◌++◌}
@@ -11,6 +11,7 @@ use lib.Seq.{take_all, drop-append-le}
 use Rattle.tables.specs.Table.{Table}
 use Rattle.weights.specs.Weights.{spare_bit_set}
 use Rattle.rules.specs.Rules.{rule}
+use Rattle.rules.specs.declared.Rule.TheVariants.{Mask}
 use Rattle.lines.specs.Lines.{refusal_line}
 use Rattle.lines.proofs.Short.{refusal_short}
 use Rattle.image_text.specs.ImageText.{text_of_image, input_text, text_by, masked_text}
@@ -51,6 +52,6 @@ module _ (n : ℕ) where
 pub masked_short : (mask : ℕ) (f : Table → List ℕ) (most : ℕ) → 20 ≤ most → (T : Table) → length (f T) ≤ most → length (masked_text mask f T) ≤ most
 masked_short mask f most room T h = pick (spare_bit_set mask T.events)
   where
-    pick : (t : Bool) → length (text_by (rule 16 t 0) (f T)) ≤ most
+    pick : (t : Bool) → length (text_by (rule Mask t 0) (f T)) ≤ most
     pick true = omega (arith, refusal_short 16 0 (omega arith) (omega arith))
     pick false = h

@@ -11,15 +11,18 @@ use lib.Seq.{length-take-le}
 use Rattle.tables.specs.Lists.{over}
 use Rattle.tables.specs.Table.{Table, Valid, mark_byte_count}
 use Rattle.tables.proofs.Over.{over-length, take-over}
-use Rattle.rules.specs.Rules.{winch, table_of}
+use Rattle.rules.specs.Rules.{number_of, winch, table_of}
+use Rattle.rules.specs.declared.Rule.TheVariants.{Large}
+use Rattle.rules.specs.declared.Refusal.{Refusal}
 use Rattle.rules.specs.declared.Limits.{Limits}
 use Rattle.rules.proofs.Checks.{unbroken}
 use Rattle.images.specs.Image.{marks_of, cells_of, table_in}
 use Rattle.images.specs.declared.Form.TheVariants.{Plain}
 use Rattle.images.proofs.Numbers.{Bytes}
-use Rattle.image_sections.specs.Read.{at_most, image_read}
-use Rattle.image_sections.specs.declared.Read.{Read}
-use Rattle.image_sections.specs.declared.Read.TheVariants as read
+use Rattle.image_sections.specs.Read.{Read, at_most, image_read}
+use Rattle.image_sections.specs.declared.Shape.{Shape}
+use Rattle.std.specs.Prelude.{Ok, Err}
+use Rattle.rules.specs.declared.Refusal.{Refusal}
 use Rattle.image_reader.specs.Read.{roomed, read_by, cells_in, marks_in}
 use Rattle.image_reader.proofs.RoundTrip.{read_valid}
 use Rattle.lines.specs.Lines.{refusal_line}
@@ -36,18 +39,20 @@ marks₀ = replicate 16 0
 
 -- ---- there is room for all that is taken
 
-few_valid : (b : List ℕ) → Bytes b → (rows events start : ℕ) → image_read winch (at_most 128) b ≡ read.Table rows events start → Valid (table_in b rows events start) × (rows ≤ 128)
-few_valid b bytes rows events start e = let v = read_valid (at_most 128) b bytes rows events start e in (v.0, ltb-false 128 rows (unbroken 12 (ltb 128 rows) 0 v.1))
+few_valid : (b : List ℕ) → Bytes b → (table : Shape) → image_read winch (at_most 128) b ≡ Ok table → Valid (table_in b table.rows table.events table.start) × (table.rows ≤ 128)
+few_valid b bytes table e =
+    let v = read_valid (at_most 128) b bytes table.rows table.events table.start e in
+    (v.0, ltb-false 128 table.rows (unbroken Large (ltb 128 table.rows) 0 v.1))
 
 -- Such a table has at most 4,096 cells.
 in_few_cells : {T : Table} → Valid T × (T.rows ≤ 128) → T.rows * T.events ≤ 4096
 in_few_cells v = mul-le-mul v.1 v.0.events_fit
 
 room_enough : (b : List ℕ) → Bytes b → (r : Read) → image_read winch (at_most 128) b ≡ r → roomed r 4096 16 ≡ r
-room_enough b bytes (read.Refused number place) e = refl
-room_enough b bytes (read.Table rows events start) e =
-    let v = few_valid b bytes rows events start e in
-    rw (le-ltb 4096 (rows * events) (in_few_cells v), le-ltb 16 (mark_byte_count rows) (omega arith))
+room_enough b bytes (Err r) e = refl
+room_enough b bytes (Ok table) e =
+    let v = few_valid b bytes table e in
+    rw (le-ltb 4096 (table.rows * table.events) (in_few_cells v), le-ltb 16 (mark_byte_count table.rows) (omega arith))
 
 -- What the reader promises of these buffers.
 module _ (b : List ℕ) {cells marks : List ℕ} {r : Read} {L : Limits} (bytes : Bytes b) (same : L ≡ winch)
@@ -58,8 +63,8 @@ module _ (b : List ℕ) {cells marks : List ℕ} {r : Read} {L : Limits} (bytes 
       p.0 ∙ ap (λ (K : Limits). roomed (image_read K (at_most 128) b) (length cells₀) (length marks₀)) same
       ∙ ap₂ (roomed read_as) (length-replicate {A = ℕ} 4096 0) (length-replicate {A = ℕ} 16 0) ∙ room_enough b bytes read_as refl
 
-  pub cells_fit : {rows events start : ℕ} → r ≡ read.Table rows events start → rows * events ≤ 4096
-  cells_fit {rows} {events} {start} e = in_few_cells (few_valid b bytes rows events start (sym answer_is ∙ e))
+  pub cells_fit : {table : Shape} → r ≡ Ok table → table.rows * table.events ≤ 4096
+  cells_fit {table} e = in_few_cells (few_valid b bytes table (sym answer_is ∙ e))
 
   -- With the answer by another name, and so many cells and mark bytes.
   pub loads : {s : Read} → r ≡ s → {count size : ℕ} → count ≡ cell_count s → size ≡ byte_count s → Loads b record { read = s; cells = cells; marks = marks; count = count; bytes = size }
@@ -69,7 +74,7 @@ module _ (b : List ℕ) {cells marks : List ℕ} {r : Read} {L : Limits} (bytes 
     marks_are = p.2 ∙ ap (λ (x : Read). marks_in x b marks₀) h;
     count_is = n;
     bytes_is = m;
-    sound = λ rows events start e. few_valid b bytes rows events start (sym answer_is ∙ h ∙ e);
+    sound = λ table e. few_valid b bytes table (sym answer_is ∙ h ∙ e);
   }
 
 -- ---- what was taken
@@ -77,14 +82,23 @@ module _ (b : List ℕ) {cells marks : List ℕ} {r : Read} {L : Limits} (bytes 
 -- The image b was loaded as l.
 module _ {b : List ℕ} {l : Loaded} (t : Loads b l) where
   -- A refusal.
-  pub refused-text : (f : Table → List ℕ) {number place : ℕ} → l.read ≡ read.Refused number place → refusal_line number place ≡ text_of_image f b
+  pub refused-text : (f : Table → List ℕ) {r : Refusal} → l.read ≡ Err r → refusal_line (number_of r.rule) r.place ≡ text_of_image f b
   unfolding text_of_image
   refused-text f e = sym (ap (text_of f b) (sym t.says ∙ e))
 
   -- A table.
-  module _ {rows events start : ℕ} (e : l.read ≡ read.Table rows events start) where
+  module _ {table : Shape} (e : l.read ≡ Ok table) where
+    abbrev rows : ℕ
+    rows = table.rows
+
+    abbrev events : ℕ
+    events = table.events
+
+    abbrev start : ℕ
+    start = table.start
+
     sound : Valid (table_in b rows events start) × (rows ≤ 128)
-    sound = t.sound rows events start e
+    sound = t.sound table e
 
     inside : 0 + length (cells_of Plain b rows events) ≤ length cells₀
     inside = omega (arith, sound.0.all_cells, in_few_cells sound, length-replicate {A = ℕ} 4096 0)

@@ -1,19 +1,15 @@
 -- What a program that reads a mask and an image prints: the text of the image's table, or the refusal.
-use Rattle.std.specs.Prelude.{cond, List, ℕ, ◌+◌, ◌*◌, eqb, ltb, length, drop}
+use Rattle.std.specs.Prelude.{cond, List, ℕ, ◌+◌, ◌*◌, eqb, ltb, length, drop, Ok, Err}
 use Rattle.tables.specs.Table.{Table, Offset, offset, none}
-use Rattle.rules.specs.Rules.{winch, mask_rule}
-use Rattle.rules.specs.declared.Verdict.{Verdict}
-use Rattle.rules.specs.declared.Verdict.TheVariants.{Fine, Refused}
+use Rattle.rules.specs.Rules.{Verdict, number_of, winch, mask_rule}
 use Rattle.images.specs.Image.{number_at, table_in}
-use Rattle.image_sections.specs.Read.{at_most, image_read}
-use Rattle.image_sections.specs.declared.Read.{Read}
-use Rattle.image_sections.specs.declared.Read.TheVariants as read
+use Rattle.image_sections.specs.Read.{Read, at_most, image_read}
 use Rattle.lines.specs.Lines.{refusal_line}
 
 -- The text for an image, as the reader answers it; f gives the text of a table.
 abbrev pub text_of : (Table → List ℕ) → List ℕ → Read → List ℕ
-text_of f image (read.Table rows events start) = f (table_in image rows events start)
-text_of f image (read.Refused number place) = refusal_line number place
+text_of f image (Ok table) = f (table_in image table.rows table.events table.start)
+text_of f image (Err r) = refusal_line (number_of r.rule) r.place
 
 -- `reduce` and `sheet` take at most 128 rows.
 unfoldable pub text_of_image : (Table → List ℕ) → List ℕ → List ℕ
@@ -33,8 +29,8 @@ mask_at input at = number_at input at + 65536 * number_at input (at + 2)
 
 -- A text, or the refusal if a rule is broken.
 abbrev pub text_by : Verdict → List ℕ → List ℕ
-text_by Fine t = t
-text_by (Refused number place) t = refusal_line number place
+text_by (Ok u) t = t
+text_by (Err r) t = refusal_line (number_of r.rule) r.place
 
 -- The text of a table, by f, where its mask keeps rule 16, which is judged "once the image is read".
 abbrev pub masked_text : ℕ → (Table → List ℕ) → Table → List ℕ

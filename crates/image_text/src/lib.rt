@@ -1,22 +1,24 @@
 #![tactic(auto)]
 // What a program prints that reads a mask and an image of at most 128 rows: the definition is in specs/, its laws in proofs/. The code reads the offset, the mask and the image.
-ghost use Rattle.std.specs.Prelude.{◌≡◌, ◌+◌, ◌*◌};
-ghost use Rattle.rules.specs.Rules.{offset_of};
-ghost use Rattle.image_text.specs.ImageText.{stored_offset};
+ghost use Rattle.std.specs.Prelude.{◌≡◌, List, ℕ, ◌+◌, ◌*◌, ◌≤◌};
+ghost use Rattle.tables.specs.Table.{Table, Valid};
+ghost use Rattle.text.specs.Text.{Puts};
+ghost use Rattle.rules.specs.Rules.{lent, offset_of};
+ghost use Rattle.image_text.specs.ImageText.{stored_offset, masked_text, text_of_image};
 ghost use Rattle.image_text.specs.Loaded.{Loads};
 
-use image_sections::Read;
-use rules::Offset;
+use image_sections::Shape;
+use rules::{Refusal, Table};
 
 // The offset that stands in two bytes, low byte first; 65,535 is none.
-pub fn offset_of(low: u8, high: u8) -> Offset
+pub fn offset_of(low: u8, high: u8) -> Option<u16>
     ensures { offset_of result ≡ stored_offset (low + 256 * high) }
 {
     let k = (low as u16) + 256 * (high as u16);
     if k == 65535 {
-        return Offset::None;
+        return None;
     }
-    Offset::Number(k)
+    Some(k)
 }
 
 // The mask that stands in four bytes, low byte first.
@@ -29,7 +31,7 @@ pub fn mask_of(first: u8, second: u8, third: u8, fourth: u8) -> u32
 // An image that was read: the answer and, of a table, its cells and its mark bytes, in front, and how many there are of each.
 #[derive(Clone, Copy)]
 pub struct Loaded {
-    pub read: Read,
+    pub read: Result<Shape, Refusal>,
     pub cells: [u16; 4096],
     pub marks: [u8; 16],
     pub count: usize,
@@ -43,7 +45,7 @@ pub fn load(image: &[u8]) -> Loaded
     let mut cells = [0u16; 4096];
     let mut marks = [0u8; 16];
     let read = image_reader::read_within(rules::winch(), 128, image, &mut cells, &mut marks);
-    let Read::Table(rows, events, _) = read else {
+    let Ok(shape) = read else {
         return Loaded {
             read,
             cells,
@@ -52,13 +54,55 @@ pub fn load(image: &[u8]) -> Loaded
             bytes: 0,
         };
     };
-    let count = rows * events;
-    let bytes = marks::mark_bytes(rows);
+    let count = shape.rows * shape.events;
+    let bytes = marks::mark_bytes(shape.rows);
     Loaded {
         read,
         cells,
         marks,
         count,
         bytes,
+    }
+}
+
+// What tells one program from another: the text of a table that was read.
+pub trait TableText {
+    // The text of a table under a mask that keeps its rule.
+    ghost text: { Self → ℕ → Table → List ℕ };
+
+    // Writes it, or the refusal of the mask.
+    fn write(&self, mask: u32, table: Table<'_>, out: &mut [u8]) -> usize
+        requires { Valid (lent table) × (table.rows ≤ 128) }
+        ensures { Puts out.old 0 (masked_text mask (text self.now mask) (lent table.entry)) out.new result };
+}
+
+// Writes the text for an image.
+pub fn write_image_text<T: TableText>(
+    table_text: &T,
+    mask: u32,
+    image: &[u8],
+    out: &mut [u8],
+) -> usize
+    ensures { Puts out.old 0 (text_of_image (masked_text mask (T.text table_text.now mask)) image.now) out.new result }
+{
+    let Loaded {
+        read,
+        cells,
+        marks,
+        count,
+        bytes,
+    } = load(image);
+    match read {
+        Err(refusal) => lines::put_refusal(out, 0, refusal.rule.number(), refusal.place),
+        Ok(shape) => {
+            let table = Table {
+                rows: shape.rows,
+                events: shape.events,
+                start: shape.start,
+                cells: &cells[..count],
+                marks: &marks[..bytes],
+            };
+            table_text.write(mask, table, out)
+        }
     }
 }

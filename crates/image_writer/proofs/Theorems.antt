@@ -8,9 +8,8 @@ use lib.ListN.{length, get_or, take}
 use Rattle.tables.specs.Table.{Table, Valid}
 use Rattle.tables.specs.Lists.{over}
 use Rattle.tables.proofs.Over.{take-over}
-use Rattle.rules.specs.Rules.{and_then, judged, room_rule}
-use Rattle.rules.specs.declared.Verdict.{Verdict}
-use Rattle.rules.specs.declared.Verdict.TheVariants.{Fine, Refused}
+use Rattle.rules.specs.Rules.{Verdict, sound, and_then, judged, room_rule}
+use Rattle.std.specs.Prelude.{Ok, Err}
 use Rattle.rules.proofs.Checks.{unbroken}
 use Rattle.rules.proofs.First.{fine_valid}
 use Rattle.rules.proofs.Judged.{judged-append}
@@ -20,21 +19,20 @@ use Rattle.images.proofs.Image.{image-length}
 use Rattle.image_rules.specs.Checks.{form_checks, image_checks, written_by}
 use Rattle.image_rules.proofs.Judged.{image-fine}
 use Rattle.image_writer.specs.Write.{write_checks, written_as, image_by, image_in_as}
-use Rattle.image_rules.specs.declared.Written.TheVariants as write
 
 -- The writer's checks, one after the other.
-passes : (u v : Verdict) → and_then u (and_then v Fine) ≡ Fine → (u ≡ Fine) × (v ≡ Fine)
-passes Fine Fine e = (refl, refl)
-passes Fine (Refused number place) e = (refl, e)
-passes (Refused number place) v e = let z : ◌≡◌ {A = ℕ} 0 1 = cc in absurd (omega arith)
+passes : (u v : Verdict) → and_then u (and_then v sound) ≡ sound → (u ≡ sound) × (v ≡ sound)
+passes (Ok u) (Ok v) e = (refl, refl)
+passes (Ok u) (Err r) e = (refl, e)
+passes (Err r) v e = let z : ◌≡◌ {A = ℕ} 0 1 = cc in absurd (omega arith)
 
 module _ (F : Form) (T : Table) (bytes : (i : ℕ) → get_or T.marks i 0 < 256) (out : List ℕ) (n : ℕ) where
-  fine : (v : Verdict) → written_by F v T ≡ write.Length n → (v ≡ Fine) × (n ≡ length_of_image F T.rows T.events)
-  fine Fine e = (refl, cc)
-  fine (Refused number place) e = let z : ◌≡◌ {A = ℕ} 0 1 = cc in absurd (omega arith)
+  fine : (v : Verdict) → written_by F v T ≡ Ok n → (v ≡ sound) × (n ≡ length_of_image F T.rows T.events)
+  fine (Ok u) e = (refl, cc)
+  fine (Err r) e = let z : ◌≡◌ {A = ℕ} 0 1 = cc in absurd (omega arith)
 
   -- A written image is that of a valid table whose targets fit, and nothing beyond it is touched.
-  pub written-image : written_as F T (length out) ≡ write.Length n → Valid T × Fits F T × (take n (image_in_as F T out) ≡ image_of F T)
+  pub written-image : written_as F T (length out) ≡ Ok n → Valid T × Fits F T × (take n (image_in_as F T out) ≡ image_of F T)
   unfolding written_as image_in_as
   written-image e =
       let room : ℕ = length out in

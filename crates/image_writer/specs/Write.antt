@@ -1,15 +1,12 @@
 -- What the image writer checks, answers and leaves in the lent bytes.
-use Rattle.std.specs.Prelude.{List, [], ◌∷◌, ◌++◌, ℕ, length}
+use Rattle.std.specs.Prelude.{List, [], ◌∷◌, ◌++◌, ℕ, length, Ok, Err}
 use Rattle.tables.specs.Table.{Table}
 use Rattle.tables.specs.Lists.{over}
-use Rattle.rules.specs.Rules.{judged, room_rule}
-use Rattle.rules.specs.declared.Verdict.{Verdict}
-use Rattle.rules.specs.declared.Verdict.TheVariants.{Fine, Refused}
+use Rattle.rules.specs.Rules.{Verdict, judged, room_rule}
 use Rattle.images.specs.Image.{image_of, length_of_image}
 use Rattle.images.specs.declared.Form.{Form}
 use Rattle.images.specs.declared.Form.TheVariants.{Plain}
-use Rattle.image_rules.specs.Checks.{image_checks, written_by}
-use Rattle.image_rules.specs.declared.Written.{Written}
+use Rattle.image_rules.specs.Checks.{Written, image_checks, written_by}
 
 -- What is judged of the table, and then 7.
 abbrev pub write_checks : Form → Table → ℕ → List Verdict
@@ -20,8 +17,8 @@ unfoldable pub written_as : Form → Table → ℕ → Written
 written_as F T room = written_by F (judged (write_checks F T room)) T
 
 abbrev pub image_by : Form → Verdict → Table → List ℕ → List ℕ
-image_by F Fine T out = over out 0 (image_of F T)
-image_by F (Refused number place) T out = out
+image_by F (Ok u) T out = over out 0 (image_of F T)
+image_by F (Err r) T out = out
 
 -- What it leaves in the lent bytes.
 unfoldable pub image_in_as : Form → Table → List ℕ → List ℕ

@@ -3,15 +3,14 @@ use mathlib.Core.Path.{◌≡◌, refl, sym, ap, ◌∙◌}
 use mathlib.Core.Bool.{false}
 use mathlib.Core.List.{List, [], ◌∷◌, ◌++◌}
 use Prim.Native.Nat.{ℕ, zero, suc, ◌+◌, ◌*◌, ◌≤◌, ◌<◌}
-use native.Mathlib.Nat.{add-zero, mul-le-mul}
+use native.Mathlib.Nat.{add-zero}
 use native.Mathlib.Numerals.{add-one}
 use native.Mathlib.Omega.{arith}
 use lib.ListN.{length, get_or, drop}
 use lib.IntN.{ℤ}
 use lib.Seq.{drop-cons, get_or-drop}
 use Rattle.steps.specs.Steps.{step_of, byte_of_step, step_of_byte, landing}
-use Rattle.steps.specs.declared.Step.{Step}
-use Rattle.steps.specs.declared.Step.TheVariants.{Small, Far}
+use Rattle.std.specs.Prelude.{Option, Some, None}
 use Rattle.steps.proofs.Steps.{leads, step_back_lem, byte_back, step_byte}
 use Rattle.automata.proofs.Tests.{clash}
 use Rattle.images.specs.Image.{width, step_bytes, target_bytes, target_at, far, too_far}
@@ -22,9 +21,9 @@ use Rattle.images.proofs.Numbers.{Bytes, number_bytes, number-at, number-on}
 -- ---- one target
 
 -- A step that is not too far.
-near : (P : Step → Type 0) (s : Step) → ((d : ℤ) → s ≡ Small d → P (Small d)) → far s ≡ false → P s
-near P (Small d) h e = h d refl
-near P Far h e = clash refl e
+near : (P : Option ℤ → Type 0) (s : Option ℤ) → ((d : ℤ) → s ≡ Some d → P (Some d)) → far s ≡ false → P s
+near P (Some d) h e = h d refl
+near P None h e = clash refl e
 
 pub target_length : (F : Form) (row target : ℕ) → too_far F row target ≡ false → length (target_bytes F row target) ≡ width F
 target_length Plain row target e = refl
@@ -34,9 +33,9 @@ one_byte : (x : ℕ) → x < 256 → Bytes (x ∷ [])
 one_byte x h zero = h
 one_byte x h (suc i) = omega arith
 
-step_bytes_lem : (row target : ℕ) (s : Step) → step_of row target ≡ s → Bytes (step_bytes s)
-step_bytes_lem row target (Small d) e = one_byte (byte_of_step d) (step_byte row target d e)
-step_bytes_lem row target Far e = λ i. omega arith
+step_bytes_lem : (row target : ℕ) (s : Option ℤ) → step_of row target ≡ s → Bytes (step_bytes s)
+step_bytes_lem row target (Some d) e = one_byte (byte_of_step d) (step_byte row target d e)
+step_bytes_lem row target None e = λ i. omega arith
 
 pub target_bytes_lem : (F : Form) (row target : ℕ) → Bytes (target_bytes F row target)
 target_bytes_lem Plain row target = number_bytes target
@@ -69,12 +68,6 @@ module _ (b : List ℕ) (bytes : Bytes b) where
 pub width_most : (F : Form) (n : ℕ) → width F * n ≤ 2 * n
 width_most Plain n = omega arith
 width_most Radio n = omega arith
-
--- The targets of a table with 16-bit counts.
-pub targets_most : (F : Form) (rows events : ℕ) → rows ≤ 65535 → events ≤ 65535 → (rows * events ≤ 65535 * 65535) × (width F * (rows * events) ≤ 2 * (65535 * 65535))
-targets_most F rows events h g =
-    let n : rows * events ≤ 65535 * 65535 = mul-le-mul h g in
-    (n, omega (arith, width_most F (rows * events)))
 
 -- The bytes of a target and of those before it are among those of all.
 pub width-below : (F : Form) (i n : ℕ) → i < n → width F * i + width F ≤ width F * n

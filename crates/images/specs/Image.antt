@@ -1,8 +1,6 @@
 -- "Image of a table": its bytes, and what stands where in them. Its form says how targets stand in it.
-use Rattle.std.specs.Prelude.{◌≡◌, Bool, true, false, List, [], ◌∷◌, ◌++◌, ℕ, suc, ◌+◌, ◌*◌, ◌/◌, ◌%◌, ◌<◌, length, get_or, take, drop}
+use Rattle.std.specs.Prelude.{◌≡◌, Bool, true, false, List, [], ◌∷◌, ◌++◌, ℕ, suc, ◌+◌, ◌*◌, ◌/◌, ◌%◌, ◌<◌, length, get_or, take, drop, Option, Some, None, ℤ}
 use Rattle.steps.specs.Steps.{step_of, byte_of_step, step_of_byte, landing}
-use Rattle.steps.specs.declared.Step.{Step}
-use Rattle.steps.specs.declared.Step.TheVariants.{Small, Far}
 use Rattle.tables.specs.Table.{Table, mark_byte_count}
 use Rattle.tables.specs.Lists.{tabulate}
 use Rattle.rules.specs.Rules.{table_of}
@@ -25,9 +23,9 @@ width Plain = 2
 width Radio = 1
 
 -- A step that is too far has no byte.
-abbrev pub step_bytes : Step → List ℕ
-step_bytes (Small d) = byte_of_step d ∷ []
-step_bytes Far = []
+abbrev pub step_bytes : Option ℤ → List ℕ
+step_bytes (Some d) = byte_of_step d ∷ []
+step_bytes None = []
 
 -- Its bytes, in a row: the number, or the step from the row to it.
 abbrev pub target_bytes : Form → ℕ → ℕ → List ℕ
@@ -65,9 +63,9 @@ abbrev pub length_of_image : Form → ℕ → ℕ → ℕ
 length_of_image F rows events = mark_byte_count rows + width F * (rows * events) + 8
 
 -- A radio image is made of tables whose steps fit: no step is too far.
-abbrev pub far : Step → Bool
-far (Small d) = false
-far Far = true
+abbrev pub far : Option ℤ → Bool
+far (Some d) = false
+far None = true
 
 abbrev pub too_far : Form → ℕ → ℕ → Bool
 too_far Plain row target = false

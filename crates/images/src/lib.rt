@@ -2,6 +2,7 @@
 // The two forms of an image: they differ in how targets stand in it.
 ghost use Rattle.std.specs.Prelude.{◌≡◌};
 ghost use Rattle.images.specs.Image.{width as width_of, length_of_image};
+
 // Document 01's image, with a number for each target; and the radio image of #102, with a step, a signed byte.
 #[derive(Clone, Copy)]
 pub enum Form {
@@ -23,6 +24,6 @@ pub fn width(form: Form) -> usize
 pub fn image_length(form: Form, rows: u16, events: u16) -> usize
     ensures { result ≡ length_of_image form rows events }
 {
-    let rows = rules::wide(rows);
-    marks::mark_bytes(rows) + width(form) * (rows * rules::wide(events)) + 8
+    let rows = rows as usize;
+    marks::mark_bytes(rows) + width(form) * (rows * events as usize) + 8
 }

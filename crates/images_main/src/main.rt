@@ -1,23 +1,30 @@
 #![tactic(auto)]
 // Document 01's small examples of refusals 1 to 7, by the image writer, and an image written and read back. What the reader refuses is
 // run by the independent cutter. Lines are put into one buffer, each function from a place on.
-use image_rules::Written;
-use image_sections::Read;
+use image_sections::Shape;
 use lines::put_refusal;
 use printing::{put_cells, put_line};
+use rules::{Refusal, Table};
 use std::io;
 
 // What the writer answers.
-fn put_written(out: &mut [u8], at: usize, w: Written) -> usize {
+fn put_written(out: &mut [u8], at: usize, w: Result<usize, Refusal>) -> usize {
     match w {
-        Written::Refused(number, place) => put_refusal(out, at, number, place),
-        Written::Length(n) => put_line(out, at, b"length", &[n]),
+        Err(refusal) => put_refusal(out, at, refusal.rule.number(), refusal.place),
+        Ok(n) => put_line(out, at, b"length", &[n]),
     }
 }
 
 // A table of a size, without cells and mark bytes.
 fn write_size(out: &mut [u8], at: usize, rows: usize, events: usize) -> usize {
-    let w = image_writer::write_image(rows, events, 0, &[], &[], &mut [99; 20]);
+    let table = Table {
+        rows,
+        events,
+        start: 0,
+        cells: &[],
+        marks: &[],
+    };
+    let w = image_writer::write_image(table, &mut [99; 20]);
     put_written(out, at, w)
 }
 
@@ -30,13 +37,27 @@ fn write_two(
     cells: &[u16],
     mark: u8,
 ) -> usize {
-    let w = image_writer::write_image(2, events, start, cells, &[mark], &mut [99; 20]);
+    let table = Table {
+        rows: 2,
+        events,
+        start,
+        cells,
+        marks: &[mark],
+    };
+    let w = image_writer::write_image(table, &mut [99; 20]);
     put_written(out, at, w)
 }
 
 // Table A, into bytes of a given length.
 fn write_a(out: &mut [u8], at: usize, image: &mut [u8]) -> usize {
-    let w = image_writer::write_image(3, 1, 0, &[1, 2, 2], &[1], image);
+    let table = Table {
+        rows: 3,
+        events: 1,
+        start: 0,
+        cells: &[1, 2, 2],
+        marks: &[1],
+    };
+    let w = image_writer::write_image(table, image);
     put_written(out, at, w)
 }
 
@@ -57,15 +78,11 @@ fn unsound(out: &mut [u8], at: usize) -> usize {
 }
 
 // What the reader answers.
-fn put_read(out: &mut [u8], at: usize, r: Read) -> usize {
+fn put_read(out: &mut [u8], at: usize, r: Result<Shape, Refusal>) -> usize {
     match r {
-        Read::Refused(number, place) => put_refusal(out, at, number, place),
-        Read::Table(rows, events, start) => put_line(out, at, b"table", &[rows, events, start]),
+        Err(refusal) => put_refusal(out, at, refusal.rule.number(), refusal.place),
+        Ok(table) => put_line(out, at, b"table", &[table.rows, table.events, table.start]),
     }
-}
-
-fn wide(x: u8) -> usize {
-    x as usize
 }
 
 // Reads an image, and shows the lent cells and mark bytes: what is to spare stays as it was.
@@ -75,14 +92,14 @@ fn read(out: &mut [u8], at: usize, image: &[u8]) -> usize {
     let r = image_reader::read_image(image, &mut cells, &mut marks);
     let mut next = put_read(out, at, r);
     next = put_cells(out, next, &cells);
-    put_line(out, next, b"bytes", &[wide(marks[0]), wide(marks[1])])
+    put_line(out, next, b"bytes", &[marks[0] as usize, marks[1] as usize])
 }
 
 // Bytes as numbers.
 fn numbers(bytes: &[u8; 17]) -> [usize; 17] {
     let mut numbers = [0; 17];
     for i in 0..17 {
-        numbers[i] = wide(bytes[i]);
+        numbers[i] = bytes[i] as usize;
     }
     numbers
 }

@@ -6,7 +6,7 @@ use Prim.Native.Nat.{ℕ, ◌+◌, ◌<◌}
 use lib.Dec.{eqb}
 use lib.ListN.{length, get_or}
 use Rattle.automata.specs.Runs.{Events, Machine, Len, len, endless}
-use Rattle.tables.specs.Lengths.{distance, lead, is_zero, reached}
+use Rattle.tables.specs.Lengths.{lead, is_zero, reached}
 use Rattle.tables.specs.Reduction.{fold}
 use Rattle.tables.specs.Table.{Table, Offset, Valid, machine, events_of, weight_by}
 use Rattle.tables.proofs.Counted.{mask_light}

@@ -9,9 +9,9 @@ use Rattle.tables.specs.Lists.{over}
 use Rattle.tables.specs.Table.{Table, Offset, machine, events_of, weight_by}
 use Rattle.tables.proofs.Counted.{mask_light}
 use Rattle.tables.proofs.Over.{take-over}
-use Rattle.rules.specs.Rules.{and_then, left_by}
-use Rattle.rules.specs.declared.Verdict.{Verdict}
-use Rattle.rules.specs.declared.Verdict.TheVariants.{Fine, Refused}
+use Rattle.rules.specs.Rules.{Verdict, sound, and_then, left_by}
+use Rattle.std.specs.Prelude.{Result, Ok, Err}
+use Rattle.rules.specs.declared.Refusal.{Refusal}
 use Rattle.rules.proofs.Checks.{unbroken}
 use Rattle.scratch.specs.Scratch.{scratch_cells, cleared}
 use Rattle.scratch.proofs.Cells.{clear_work}
@@ -25,15 +25,23 @@ use Rattle.last_run_rules.specs.Checks.{verdict, run_rule, answer_by}
 use Rattle.last_run_rules.proofs.Order.{Ready, fine-ready}
 use Rattle.losses.specs.Losses.{loss_at}
 use Rattle.last_run_rules.specs.declared.Told.{Told}
-use Rattle.last_run_rules.specs.declared.Told.TheVariants as told
 use Rattle.last_run.specs.LastRun.{Promise}
 use Rattle.last_run.proofs.Given.{loss-told}
 
-no_run : {A : Type 0} {number place far n : ℕ} → told.Refused number place ≡ told.Run far n → A
+-- What is told of a run.
+abbrev run_of : ℕ → ℕ → Told
+run_of far n = record { distance = far; length = n }
+
+abbrev told_of : ℕ → ℕ → Result Told Refusal
+told_of far n = Ok (run_of far n)
+
+no_run : {A : Type 0} {r : Refusal} {far n : ℕ} → Err r ≡ told_of far n → A
 no_run e = let z : ◌≡◌ {A = ℕ} 0 1 = cc in absurd (omega arith)
 
-same_run : {f l far n : ℕ} → told.Run f l ≡ told.Run far n → (f ≡ far) × (l ≡ n)
-same_run e = (cc, cc)
+same_run : {f l far n : ℕ} → told_of f l ≡ told_of far n → (f ≡ far) × (l ≡ n)
+same_run {f} {l} {far} {n} e =
+    let same : run_of f l ≡ run_of far n = cc in
+    (ap (λ (t : Told). t.distance) same, ap (λ (t : Told). t.length) same)
 
 module _ (k : Offset) (mask : ℕ) (T : Table) (row : ℕ) (run s : List ℕ) where
   abbrev v : Verdict
@@ -43,8 +51,8 @@ module _ (k : Offset) (mask : ℕ) (T : Table) (row : ℕ) (run s : List ℕ) wh
   g = given_up (weight_by mask) k T row
 
   -- A rule of 1 to 7 is broken.
-  pub refused : (number place : ℕ) → Refused number place ≡ v → Promise v g k mask T row run s (told.Refused number place) run s
-  refused number place e = record {
+  pub refused : (r : Refusal) → Err r ≡ v → Promise v g k mask T row run s (Err r) run s
+  refused r e = record {
     answers = rw (← e) refl;
     run_after = rw (← e) refl;
     scratch_after = rw (← e) refl;
@@ -52,7 +60,7 @@ module _ (k : Offset) (mask : ℕ) (T : Table) (row : ℕ) (run s : List ℕ) wh
   }
 
   -- None is.
-  module _ (e : Fine ≡ v) (bytes : (i : ℕ) → get_or T.marks i 0 < 256) where
+  module _ (e : sound ≡ v) (bytes : (i : ℕ) → get_or T.marks i 0 < 256) where
     pub ready : Ready T row (length s)
     ready = fine-ready mask T row (length s) (sym e) bytes
 
@@ -60,9 +68,9 @@ module _ (k : Offset) (mask : ℕ) (T : Table) (row : ℕ) (run s : List ℕ) wh
     u = run_rule (length g.run) (length run)
 
     -- The written run, read back.
-    read_back : (w : Verdict) → run_rule (length g.run) (length run) ≡ w → (far n : ℕ) → answer_by w g ≡ told.Run far n → (g.far ≡ far) × (take n (left_by w run g.run) ≡ g.run)
-    read_back (Refused number place) h far n x = no_run x
-    read_back Fine h far n x =
+    read_back : (w : Verdict) → run_rule (length g.run) (length run) ≡ w → (far n : ℕ) → answer_by w g ≡ told_of far n → (g.far ≡ far) × (take n (left_by w run g.run) ≡ g.run)
+    read_back (Err r) h far n x = no_run x
+    read_back (Ok u) h far n x =
         let y = same_run x in
         let m : length g.run ≤ length run = omega (arith, ltb-false (length run) (length g.run) (unbroken _ _ _ h)) in
         (y.0, ap (λ (i : ℕ). take i (over run 0 g.run)) (sym y.1) ∙ front m)
@@ -72,7 +80,7 @@ module _ (k : Offset) (mask : ℕ) (T : Table) (row : ℕ) (run s : List ℕ) wh
             let i : length g.run ≡ 0 + length g.run = omega arith in
             ap (λ (j : ℕ). take j (over run 0 g.run)) i ∙ take-over run 0 g.run (omega arith)
 
-    pub promised : {t run' s' : List ℕ} {r : Told} {n : ℕ} → t ≡ folded_in mask k T s
+    pub promised : {t run' s' : List ℕ} {r : Result Told Refusal} {n : ℕ} → t ≡ folded_in mask k T s
         → (let l = loss_at T.rows T.events T.cells t row in let w = run_rule (length l.run) (length run) in (r ≡ answer_by w l) × (run' ≡ left_by w run l.run))
         → n ≡ needed T.rows → s' ≡ cleared t 0 n → Promise v g k mask T row run s r run' s'
     promised {t} {run'} {s'} {r} {n} ht told hn hs = record {

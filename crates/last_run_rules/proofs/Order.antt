@@ -7,10 +7,11 @@ use native.Mathlib.Omega.{arith}
 use borrow.Author.Tests.{le-leb, lt-leb, leb-false, ltb-false}
 use lib.ListN.{get_or}
 use Rattle.tables.specs.Table.{Table, Valid}
-use Rattle.rules.specs.Rules.{and_then, judged, winch, row_rule, room_rule, mask_rule, shape_checks, table_checks, masked_checks}
+use Rattle.rules.specs.Rules.{Verdict, sound, refusal, and_then, judged, winch, row_rule, room_rule, mask_rule, shape_checks, table_checks, masked_checks}
+use Rattle.std.specs.Prelude.{Err}
+use Rattle.rules.specs.declared.Rule.TheVariants.{Row}
+use Rattle.rules.specs.declared.Refusal.{Refusal}
 use Rattle.rules.specs.declared.Limits.{Limits}
-use Rattle.rules.specs.declared.Verdict.{Verdict}
-use Rattle.rules.specs.declared.Verdict.TheVariants.{Fine, Refused}
 use Rattle.rules.proofs.Judged.{judged-append, refused-first}
 use Rattle.rules.proofs.Checks.{unbroken, passed}
 use Rattle.rules.proofs.First.{room_kept, both-fine, fine_valid, more-fine, valid_masked}
@@ -21,10 +22,10 @@ use Rattle.pairs.specs.Pairs.{needed, workable}
 use Rattle.pairs.proofs.Triangle.{needed-value}
 use Rattle.last_run_rules.specs.Checks.{rest_checks, verdict}
 
-row_broken : (rows row : ℕ) → rows ≤ row → row_rule rows row ≡ Refused 4 0
+row_broken : (rows row : ℕ) → rows ≤ row → row_rule rows row ≡ Err (refusal Row 0)
 row_broken rows row h = rw (le-leb rows row h)
 
-row_kept : (rows row : ℕ) → row < rows → row_rule rows row ≡ Fine
+row_kept : (rows row : ℕ) → row < rows → row_rule rows row ≡ sound
 row_kept rows row h = rw (lt-leb rows row h)
 
 -- The verdict as the code makes it: of the table's shape with the limits given, of the row, and then of all.
@@ -32,16 +33,16 @@ module _ (mask : ℕ) (T : Table) (row room : ℕ) {L : Limits} {v : Verdict} (l
   of_shape : v ≡ judged (shape_checks winch T)
   of_shape = e ∙ ap (λ (K : Limits). judged (shape_checks K T)) l
 
-  pub shape_refused : (number place : ℕ) → v ≡ Refused number place → Refused number place ≡ verdict mask T row room
+  pub shape_refused : (r : Refusal) → v ≡ Err r → Err r ≡ verdict mask T row room
   unfolding verdict
-  shape_refused number place h = refused-first (shape_checks winch T) (row_rule T.rows row ∷ rest_checks mask T room) v number place of_shape h
+  shape_refused r h = refused-first (shape_checks winch T) (row_rule T.rows row ∷ rest_checks mask T room) v r of_shape h
 
-  module _ (h : v ≡ Fine) where
+  module _ (h : v ≡ sound) where
     by_row : verdict mask T row room ≡ and_then (row_rule T.rows row) (judged (rest_checks mask T room))
     unfolding verdict
     by_row = judged-append (shape_checks winch T) (row_rule T.rows row ∷ rest_checks mask T room) ∙ ap (λ (u : Verdict). and_then u (judged (row_rule T.rows row ∷ rest_checks mask T room))) (sym of_shape ∙ h)
 
-    pub no_row : T.rows ≤ row → Refused 4 0 ≡ verdict mask T row room
+    pub no_row : T.rows ≤ row → Err (refusal Row 0) ≡ verdict mask T row room
     no_row k = sym (by_row ∙ ap (λ (u : Verdict). and_then u (judged (rest_checks mask T room))) (row_broken T.rows row k))
 
     pub then-all : row < T.rows → {u : Verdict} → u ≡ judged (masked_checks winch mask T ++ (room_rule (scratch_cells T.rows) room ∷ [])) → u ≡ verdict mask T row room
@@ -58,16 +59,16 @@ pub record Ready (T : Table) (row room : ℕ) : Type 0 where
   pub fits : needed T.rows ≤ room
   pub works : workable T room ≡ true
 
-module _ (mask : ℕ) (T : Table) (row room : ℕ) (e : verdict mask T row room ≡ Fine) (bytes : (i : ℕ) → get_or T.marks i 0 < 256) where
-  parts : (judged (shape_checks winch T) ≡ Fine) × (judged (row_rule T.rows row ∷ rest_checks mask T room) ≡ Fine)
+module _ (mask : ℕ) (T : Table) (row room : ℕ) (e : verdict mask T row room ≡ sound) (bytes : (i : ℕ) → get_or T.marks i 0 < 256) where
+  parts : (judged (shape_checks winch T) ≡ sound) × (judged (row_rule T.rows row ∷ rest_checks mask T room) ≡ sound)
   unfolding verdict
   parts = both-fine (judged (shape_checks winch T)) (judged (row_rule T.rows row ∷ rest_checks mask T room)) (sym (judged-append (shape_checks winch T) (row_rule T.rows row ∷ rest_checks mask T room)) ∙ e)
 
-  rest : (row_rule T.rows row ≡ Fine) × (judged (rest_checks mask T room) ≡ Fine)
+  rest : (row_rule T.rows row ≡ sound) × (judged (rest_checks mask T room) ≡ sound)
   rest = both-fine (row_rule T.rows row) (judged (rest_checks mask T room)) parts.1
 
   -- Without the row they are the table's, the mask's and the scratch's.
-  others : judged (table_checks winch T ++ (mask_rule mask T.events ∷ room_rule (scratch_cells T.rows) room ∷ [])) ≡ Fine
+  others : judged (table_checks winch T ++ (mask_rule mask T.events ∷ room_rule (scratch_cells T.rows) room ∷ [])) ≡ sound
   others = judged-append (shape_checks winch T) (rest_checks mask T room) ∙ ap (λ (u : Verdict). and_then u (judged (rest_checks mask T room))) parts.0 ∙ rest.1
 
   pub fine-ready : Ready T row room

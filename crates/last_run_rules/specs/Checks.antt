@@ -1,13 +1,12 @@
 -- Which rules are judged before a row's last run is told, in which order, rule 18, and the answer.
-use Rattle.std.specs.Prelude.{List, [], ◌∷◌, ◌++◌, ℕ, ltb, length}
+use Rattle.std.specs.Prelude.{List, [], ◌∷◌, ◌++◌, ℕ, ltb, length, Result, Ok, Err}
 use Rattle.tables.specs.Table.{Table}
-use Rattle.rules.specs.Rules.{rule, judged, winch, row_rule, room_rule, mask_rule, shape_checks, content_checks}
-use Rattle.rules.specs.declared.Verdict.{Verdict}
-use Rattle.rules.specs.declared.Verdict.TheVariants.{Fine, Refused}
+use Rattle.rules.specs.Rules.{Verdict, rule, judged, winch, row_rule, room_rule, mask_rule, shape_checks, content_checks}
+use Rattle.rules.specs.declared.Rule.TheVariants.{Run}
+use Rattle.rules.specs.declared.Refusal.{Refusal}
 use Rattle.scratch.specs.Scratch.{scratch_cells}
 use Rattle.chosen.specs.GivenUp.{Loss}
 use Rattle.last_run_rules.specs.declared.Told.{Told}
-use Rattle.last_run_rules.specs.declared.Told.TheVariants as told
 
 -- What comes behind the row: rules 5 and 6, 16 straight after 6, and 7 for "the reducer's scratch".
 abbrev pub rest_checks : ℕ → Table → ℕ → List Verdict
@@ -23,9 +22,9 @@ verdict mask T row scratch = judged (row_checks mask T row scratch)
 
 -- 18: "the lent run buffer is too short for that run; last of all".
 abbrev pub run_rule : ℕ → ℕ → Verdict
-run_rule needed given = rule 18 (ltb given needed) 0
+run_rule needed given = rule Run (ltb given needed) 0
 
 -- The answer: the distance and the run's length in all its events, or the refusal.
-abbrev pub answer_by : Verdict → Loss → Told
-answer_by Fine g = told.Run g.far (length g.run)
-answer_by (Refused number place) g = told.Refused number place
+abbrev pub answer_by : Verdict → Loss → Result Told Refusal
+answer_by (Ok u) g = Ok (record { distance = g.far; length = length g.run })
+answer_by (Err r) g = Err r

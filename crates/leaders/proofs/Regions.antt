@@ -34,18 +34,11 @@ kept_set {n} s k x from until aside =
       stamps = λ y h l. get_or-set_other s k y x 0 (λ e. ⊎_elim (λ g. omega arith) (λ g. omega (arith, g.0)) aside);
     }
 
--- The sizes fit as long as the number of cells does not change.
-pub sizes_still : {n m to known : ℕ} {s t : List ℕ} → Sizes n m to known s → length t ≡ length s → Sizes n m to known t
-sizes_still z e = record { few = z.few; room = omega (arith, z.room); events = z.events; inside = z.inside; past = z.past }
-
 -- With nothing known.
 pub sizes_anew : {n m to known : ℕ} {s t : List ℕ} → Sizes n m to known s → Kept n s t → Sizes n m to 0 t
 sizes_anew z k = record { few = z.few; room = omega (arith, z.room, k.frame.size); events = z.events; inside = z.inside; past = omega arith }
 
--- Leaders of the places from `known` on, one by one.
-pub seeded_none : {n known : ℕ} {s : List ℕ} → Seeded n known known s s
-seeded_none = record { kept = kept_none; here = λ c h l r. absurd (omega arith); others = λ x h. refl }
-
+-- One leader more of those from `known` on.
 pub seeded_next : {n known c : ℕ} {s t : List ℕ} (x : ℕ) → Seeded n known c s t → known ≤ c → c < n → 12 * n ≤ length s → (row_at n s c < n → x ≡ value_at n s (row_at n s c)) → Seeded n known (c + 1) s (set t (4 * n + c) x)
 seeded_next {n} {known} {c} {s} {t} x d past h room e =
     record {

@@ -177,12 +177,6 @@ module _ {mask n m u to known last : ℕ} {cells : List ℕ} {i lost : ℕ} {s t
       kept_then (put_kept inside hi p) (subst (Kept n k) (sym te) (kept_set k (7 * n + lost) z (omega arith) (omega arith) (inr (omega arith, inl (omega arith)))))
   step_kept (Stepped.full z p re) = put_kept inside hi p
 
-  pub step_few : Stepped mask n m u to known last cells i lost s t r → r ≤ 1024 → r ≤ i + 1
-  step_few (rests why te re) h = omega arith
-  step_few (passed z li p low g re) h = omega arith
-  step_few (noted z k li p low te re) h = omega arith
-  step_few (Stepped.full z p re) h = absurd (omega arith)
-
   -- What holds of the places below i holds of those below i + 1.
   pub step-joins : {b : List ℕ} → Sizes n m to known b → u ≤ to → InHand n m to cells b → Kept n b s → JoiningIn mask n m u to known last cells i b s lost
       → Stepped mask n m u to known last cells i lost s t r → r ≤ 1024 → JoiningIn mask n m u to known last cells (i + 1) b t r

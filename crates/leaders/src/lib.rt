@@ -1,12 +1,12 @@
 #![tactic(auto)]
 // The classes of a level above 0 where idle events stay: rows are near just if every counted event leads them to one class of the level before, which is
 // their signature. One table of leaders is gone on with from level to level, and only those are put again of which an event leads to a class that changed.
-ghost use Rattle.std.specs.Prelude.{◌*◌, ◌≤◌, ◌<◌};
+ghost use Rattle.std.specs.Prelude.{◌+◌, ◌*◌, ◌≤◌, ◌<◌, MatchOption, IfSome};
 ghost use Rattle.leader_table.specs.Putting.{Sizes};
 ghost use Rattle.leaders.specs.Leaders.{InHand, Kept, Begun, Joins};
 ghost use Rattle.leaders.specs.Steps.{Stepped, Seeded, JoiningIn};
 
-// The turn of place i: if it leads and is not settled, it is put. Answers how many places below u lead no more, noted from 7 * n on; more than 1,024 if there was no room.
+// The turn of place i: if it leads and is not settled, it is put. Answers how many places below u lead no more, noted from 7 * n on; nothing if there was no room.
 fn step(
     mask: u32,
     n: usize,
@@ -19,30 +19,31 @@ fn step(
     scratch: &mut [u16],
     i: usize,
     lost: usize,
-) -> usize
+) -> Option<usize>
     requires { Sizes n m to known scratch.old × (u ≤ to) × (i < to) × (lost ≤ i) }
-    ensures { Stepped mask n m u to known last cells.now i lost scratch.old scratch.new result }
+    ensures { let x = cells.now in let s = scratch.old in let t = scratch.new in
+        MatchOption result (Stepped mask n m u to known last x i lost s t 1025) (λ count. (count ≤ i + 1) × Stepped mask n m u to known last x i lost s t count) }
 {
-    if rules::wide(scratch[4 * n + i]) != i {
-        return lost;
+    if scratch[4 * n + i] as usize != i {
+        return Some(lost);
     }
-    if i < known {
-        if !signatures::changed(n as u16, m as u16, cells, scratch, scratch[3 * n + i], last) {
-            return lost;
-        }
+    if i < known
+        && !signatures::changed(n as u16, m as u16, cells, scratch, scratch[3 * n + i], last)
+    {
+        return Some(lost);
     }
     let z = leader_table::put(mask, n, m, to, known, last, cells, scratch, i);
     if to < z {
-        return 1025;
+        return None;
     }
     if u <= z {
-        return lost;
+        return Some(lost);
     }
     scratch[7 * n + lost] = z as u16;
-    lost + 1
+    Some(lost + 1)
 }
 
-// The turns of the places from `from` up to `to`.
+// The turns of the places from `from` up to `to`, as long as there is room.
 fn step_all(
     mask: u32,
     n: usize,
@@ -54,21 +55,17 @@ fn step_all(
     cells: &[u16],
     scratch: &mut [u16],
     from: usize,
-) -> usize
+) -> Option<usize>
     requires { Sizes n m to known scratch.old × (u ≤ to) × (from ≤ known) }
     ensures { let x = cells.now in let s = scratch.old in let t = scratch.new in
-        Kept n s t × (result ≤ 1024 → result ≤ to) × (InHand n m to x s → JoiningIn mask n m u to known last x from s s 0 → result ≤ 1024 → JoiningIn mask n m u to known last x to s t result) }
+        Kept n s t × IfSome result (λ lost. (lost ≤ to)
+        × (InHand n m to x s → JoiningIn mask n m u to known last x from s s 0 → JoiningIn mask n m u to known last x to s t lost)) }
 {
     let mut lost = 0;
-    let mut i = from;
-    while i < to {
-        lost = step(mask, n, m, u, to, known, last, cells, scratch, i, lost);
-        i += 1;
-        if 1024 < lost {
-            return lost;
-        }
+    for i in from..to {
+        lost = step(mask, n, m, u, to, known, last, cells, scratch, i, lost)?;
     }
-    lost
+    Some(lost)
 }
 
 // The places from `known` up to `to` begin with the values of their rows for their leaders.
@@ -76,12 +73,9 @@ fn seed(scratch: &mut [u16], n: usize, m: usize, to: usize, known: usize)
     requires { Sizes n m to known scratch.old }
     ensures { Seeded n known to scratch.old scratch.new }
 {
-    let mut c = known;
-    while c < to {
-        let row = rules::wide(scratch[3 * n + c]);
-        let value = scratch::cell(scratch, 2 * n + row);
-        scratch[4 * n + c] = value;
-        c += 1;
+    for c in known..to {
+        let row = scratch[3 * n + c] as usize;
+        scratch[4 * n + c] = scratch::cell(scratch, 2 * n + row);
     }
 }
 
@@ -101,16 +95,10 @@ pub fn join(
     ensures { let x = cells.now in let s = scratch.old in let t = scratch.new in
         Kept n s t × (Sizes n m to known s → u ≤ to → Begun mask n m to known last x s → result ≤ 1024 → Joins mask n m u to x s t result) }
 {
-    if !leader_table::sized(n, m, to, known, scratch) {
-        return 1025;
-    }
-    if to < u {
+    if !leader_table::sized(n, m, to, known, scratch) || to < u {
         return 1025;
     }
     seed(scratch, n, m, to, known);
-    let mut from = 0;
-    if 65535 < last {
-        from = known;
-    }
-    step_all(mask, n, m, u, to, known, last, cells, scratch, from)
+    let from = if 65535 < last { known } else { 0 };
+    step_all(mask, n, m, u, to, known, last, cells, scratch, from).unwrap_or(1025)
 }

@@ -4,7 +4,7 @@ use mathlib.Core.Bool.{Bool, true, false, not}
 use mathlib.Core.List.{List}
 use Prim.Native.Nat.{ℕ, ◌+◌, ◌-◌, ◌≤◌, ◌<◌}
 use native.Mathlib.Omega.{arith}
-use borrow.Author.Tests.{not-true, not-false}
+use borrow.Author.Tests.{not-true}
 use lib.ListN.{length, get_or, drop}
 use lib.Seq.{get_or-take, get_or-drop}
 use Rattle.automata.specs.Runs.{Events, Machine}
@@ -18,7 +18,6 @@ use Rattle.measures.specs.declared.Measure.{Measure}
 use Rattle.measures.specs.Measures.{measure_in}
 use Rattle.first_events.specs.FirstEvents.{told}
 use Rattle.first_events.proofs.Told.{told-not, told-pair, told-length, told-rest}
-use Rattle.depths.specs.Depths.{plumbed}
 use Rattle.depths.proofs.Plumbed.{plumbed-not, plumbed-lead, plumbed-length, plumbed-pairs, plumbed-rest}
 use Rattle.lengths.specs.Lengths.{lengths_in, Holds, len_of, depth_at}
 use Rattle.lengths.proofs.Cells.{len-of-cell}
@@ -72,9 +71,6 @@ module _ (mask : ℕ) (T : Table) (s d : List ℕ) (r : Bool) (test : r ≡ work
   refuses e =
       let w = sym test ∙ not-true r e in
       (sym w, found ∙ told-not mask T s w ∙ sym (lengths-not mask T s w))
-
-  pub finds : not r ≡ false → {l : List ℕ} → l ≡ plumbed mask T d → (true ≡ workable T (length s)) × (l ≡ lengths_in mask T s)
-  finds e h = (sym (sym test ∙ not-false r e), h ∙ ap (plumbed mask T) found)
 
 -- ---- what is read back
 module _ {E : Events} {M : Machine} {s : List ℕ} (small : M.rows ≤ 1024) (holds : Holds E M s) where

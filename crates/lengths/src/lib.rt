@@ -30,10 +30,11 @@ pub fn find_lengths(
 }
 
 // The lead of a row: one more than its depth, 0 if it is unreached.
+#[tactic(auto, using(pairs::proofs::Triangle::triangle_bound))]
 pub fn lead(scratch: &[u16], rows: u16, row: u16) -> u16
     ensures { result ≡ lead_at scratch.now rows row }
 {
-    scratch::cell(scratch, pairs::pair_cells(rows) + rules::wide(row))
+    scratch::cell(scratch, pairs::pair_cells(rows) + row as usize)
 }
 
 // The depth of a row: its lead less one.
@@ -42,10 +43,8 @@ pub fn depth(scratch: &[u16], rows: u16, row: u16) -> u16
 {
     let lead = lead(scratch, rows, row);
     if lead == ENDLESS {
-        return ENDLESS;
+        ENDLESS
+    } else {
+        lead.saturating_sub(1)
     }
-    if lead == 0 {
-        return 0;
-    }
-    lead - 1
 }

@@ -13,11 +13,9 @@ fn put_targets(out: &mut [u8], at: usize, row: u16, events: u16, cells: &[u16]) 
     ensures { Puts out.old at (joined events (target_word events cells.now row)) out.new result }
 {
     let mut next = at;
-    let mut event = 0u16;
-    while event < events {
+    for event in 0..events {
         next = put_byte(out, next, b' ');
         next = put_cell(out, next, scratch::target(cells, events, row, event));
-        event += 1;
     }
     next
 }
@@ -38,7 +36,7 @@ fn put_row(out: &mut [u8], at: usize, row: u16, events: u16, cells: &[u16], mark
 {
     let numbered = put_cell(out, at, row);
     let targeted = put_targets(out, numbered, row, events, cells);
-    put_mark(out, targeted, marks::mark(marks, rules::wide(row)))
+    put_mark(out, targeted, marks::mark(marks, row as usize))
 }
 
 // Writes the lines of the new rows.
@@ -46,10 +44,8 @@ fn put_rows(out: &mut [u8], at: usize, rows: u16, events: u16, cells: &[u16], ma
     ensures { Puts out.old at (joined rows (row_line events cells.now marks.now)) out.new result }
 {
     let mut next = at;
-    let mut row = 0u16;
-    while row < rows {
+    for row in 0..rows {
         next = put_row(out, next, row, events, cells, marks);
-        row += 1;
     }
     next
 }
@@ -92,13 +88,12 @@ fn put_fate(out: &mut [u8], at: usize, fate: Fate, depth: Depth) -> usize
 fn record_of(records: [Record; 1024], row: u16) -> Record
     ensures { result ≡ get_or records row blank }
 {
-    let at = rules::wide(row);
-    if at < 1024 {
-        return records[at];
-    }
-    Record {
-        depth: Depth::Number(0),
-        fate: Fate::Unreached,
+    match records.get(row as usize) {
+        Some(record) => *record,
+        None => Record {
+            depth: Depth::Number(0),
+            fate: Fate::Unreached,
+        },
     }
 }
 
@@ -117,10 +112,8 @@ fn put_records(out: &mut [u8], at: usize, given: u16, records: [Record; 1024]) -
     ensures { Puts out.old at (joined given (λ row. record_line row (get_or records row blank))) out.new result }
 {
     let mut next = at;
-    let mut row = 0u16;
-    while row < given {
+    for row in 0..given {
         next = put_record(out, next, row, record_of(records, row));
-        row += 1;
     }
     next
 }

@@ -11,9 +11,9 @@ use Rattle.xorshift.proofs.States.{state-add}
 use Rattle.tables.specs.Lists.{tabulate, over}
 use Rattle.tables.specs.Table.{mark_byte_count, pack}
 use Rattle.tables.proofs.Lists.{tabulate-same}
-use Rattle.rules.specs.Rules.{left_by}
-use Rattle.rules.specs.declared.Verdict.{Verdict}
-use Rattle.rules.specs.declared.Verdict.TheVariants.{Fine, Refused}
+use Rattle.rules.specs.Rules.{Verdict, sound, left_by}
+use Rattle.std.specs.Prelude.{Err}
+use Rattle.rules.specs.declared.Refusal.{Refusal}
 use Rattle.rules.proofs.Checks.{passed, unbroken, inside}
 use Rattle.load.specs.Load.{load_cells, load_marks, load_checks, load, verdict, Promise}
 use Rattle.load.proofs.Valid.{load_valid}
@@ -29,7 +29,7 @@ pub record Checked (seed rows events cells marks : ℕ) : Type 0 where
   pub cells_room : rows * events ≤ cells
   pub marks_room : mark_byte_count rows ≤ marks
 
-pub checked : (seed rows events cells marks : ℕ) (v : Verdict) → v ≡ verdict seed rows events cells marks → v ≡ Fine → Checked seed rows events cells marks
+pub checked : (seed rows events cells marks : ℕ) (v : Verdict) → v ≡ verdict seed rows events cells marks → v ≡ sound → Checked seed rows events cells marks
 unfolding verdict
 checked seed rows events cells marks v e fine =
     let at = passed (load_checks seed rows events cells marks) (sym e ∙ fine) in
@@ -52,10 +52,10 @@ marks_after : (seed rows events st : ℕ) → st ≡ state seed (rows * events) 
 marks_after seed rows events st e = tabulate-same rows _ _ (λ i h. ap (λ (x : ℕ). step x % 2) (ap (λ (s : ℕ). state s i) e ∙ state-add seed (rows * events) i))
 
 module _ (seed rows events : ℕ) (cells marks : List ℕ) (v : Verdict) (e : v ≡ verdict seed rows events (length cells) (length marks)) where
-  pub promise_refused : (number place : ℕ) → v ≡ Refused number place
-      → Promise (verdict seed rows events (length cells) (length marks)) (load seed rows events) cells marks (Refused number place) cells marks
-  promise_refused number place r =
-      let w = sym e ∙ r in
+  pub promise_refused : {r : Refusal} → v ≡ Err r
+      → Promise (verdict seed rows events (length cells) (length marks)) (load seed rows events) cells marks (Err r) cells marks
+  promise_refused g =
+      let w = sym e ∙ g in
       record {
         answers = sym w;
         cells_after = sym (ap (λ (u : Verdict). left_by u cells (load seed rows events).cells) w);
@@ -63,9 +63,9 @@ module _ (seed rows events : ℕ) (cells marks : List ℕ) (v : Verdict) (e : v 
         valid = λ f. let z : ◌≡◌ {A = ℕ} 0 1 = cc in absurd (omega arith);
       }
 
-  pub promise_fine : v ≡ Fine → (st : ℕ) (c m : List ℕ) → st ≡ state seed (rows * events) → c ≡ over cells 0 (load_cells seed rows events)
+  pub promise_fine : v ≡ sound → (st : ℕ) (c m : List ℕ) → st ≡ state seed (rows * events) → c ≡ over cells 0 (load_cells seed rows events)
       → m ≡ over marks 0 (pack (tabulate rows (λ i. draw st i % 2)))
-      → Promise (verdict seed rows events (length cells) (length marks)) (load seed rows events) cells marks Fine c m
+      → Promise (verdict seed rows events (length cells) (length marks)) (load seed rows events) cells marks sound c m
   unfolding load
   promise_fine f st c m hs hc hm =
       let w = sym e ∙ f in

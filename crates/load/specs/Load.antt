@@ -3,9 +3,8 @@ use Rattle.std.specs.Prelude.{◌≡◌, cond, List, [], ◌∷◌, ℕ, ◌+◌
 use Rattle.xorshift.specs.Xorshift.{draw}
 use Rattle.tables.specs.Lists.{tabulate}
 use Rattle.tables.specs.Table.{Table, Valid, mark_byte_count, pack}
-use Rattle.rules.specs.Rules.{rule, judged, left_by, winch, rows_rule, events_rule, room_rule}
-use Rattle.rules.specs.declared.Verdict.{Verdict}
-use Rattle.rules.specs.declared.Verdict.TheVariants.{Fine}
+use Rattle.rules.specs.Rules.{Verdict, sound, rule, judged, left_by, winch, rows_rule, events_rule, room_rule}
+use Rattle.rules.specs.declared.Rule.TheVariants.{Seed}
 
 -- "In row r below rows / 4 (rounded down) the target is r + 1 plus the draw modulo rows − r − 1, elsewhere the draw modulo rows".
 abbrev pub target_by : ℕ → ℕ → ℕ → ℕ
@@ -37,7 +36,7 @@ load seed rows events = record {
 
 -- 17: the seed is 0.
 abbrev pub seed_rule : ℕ → Verdict
-seed_rule seed = rule 17 (eqb seed 0) 0
+seed_rule seed = rule Seed (eqb seed 0) 0
 
 -- Rules 1, 2 and 17, and last 7 for so many lent cells and mark bytes.
 abbrev pub load_checks : ℕ → ℕ → ℕ → ℕ → ℕ → List Verdict
@@ -55,4 +54,4 @@ pub record Promise (v : Verdict) (T : Table) (cells marks : List ℕ) (r : Verdi
   pub cells_after : cells' ≡ left_by v cells T.cells
   pub marks_after : marks' ≡ left_by v marks T.marks
   -- The table that was written breaks no rule.
-  pub valid : r ≡ Fine → Valid T
+  pub valid : r ≡ sound → Valid T

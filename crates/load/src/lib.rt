@@ -6,7 +6,7 @@ ghost use Rattle.tables.specs.Lists.{tabulate, over};
 ghost use Rattle.tables.specs.Table.{mark_byte_count, pack};
 ghost use Rattle.load.specs.Load.{target_by, load_cells, load, verdict, Promise};
 
-use rules::Verdict;
+use rules::{Refusal, Rule};
 
 // A target of a row, by a draw: behind it in the first quarter of the rows, any row elsewhere.
 fn target(rows: usize, row: usize, draw: u32) -> u16
@@ -27,12 +27,10 @@ fn draw_cells(seed: u32, rows: usize, events: usize, cells: &mut [u16]) -> u32
 {
     let count = rows * events;
     let mut state = seed;
-    let mut c = 0;
-    while c < count {
+    for c in 0..count {
         let draw = xorshift::step(state);
         cells[c] = target(rows, c / events, draw);
         state = draw;
-        c += 1;
     }
     state
 }
@@ -54,35 +52,34 @@ fn draw_marks(seed: u32, rows: usize, marks: &mut [u8])
 {
     let bits = 8 * marks::mark_bytes(rows);
     let mut state = seed;
-    let mut i = 0;
-    while i < bits {
+    for i in 0..bits {
         state = xorshift::step(state);
         marks::put_mark(marks, i, mark(rows, i, state));
-        i += 1;
     }
 }
 
 // Rules 1, 2 and 17, and 7 for so many lent cells and mark bytes.
-fn check(seed: u32, rows: usize, events: usize, cells: usize, marks: usize) -> Verdict
+#[tactic(auto, unfolding(crate::specs::Load::verdict))]
+fn check(seed: u32, rows: usize, events: usize, cells: usize, marks: usize) -> Result<(), Refusal>
     ensures { result ≡ verdict seed rows events cells marks }
 {
     let limits = rules::winch();
     if rules::beyond(limits.rows, rows) {
-        return Verdict::Refused(1, 0);
+        return Err(Rule::Rows.at(0));
     }
     if rules::beyond(limits.events, events) {
-        return Verdict::Refused(2, 0);
+        return Err(Rule::Events.at(0));
     }
     if seed == 0 {
-        return Verdict::Refused(17, 0);
+        return Err(Rule::Seed.at(0));
     }
     if cells < rows * events {
-        return Verdict::Refused(7, 0);
+        return Err(Rule::Room.at(0));
     }
     if marks < marks::mark_bytes(rows) {
-        return Verdict::Refused(7, 0);
+        return Err(Rule::Room.at(0));
     }
-    Verdict::Fine
+    Ok(())
 }
 
 // Draws the table of a nonzero seed into lent cells and mark bytes; its start is 0.
@@ -92,16 +89,12 @@ pub fn generate(
     events: usize,
     cells: &mut [u16],
     marks: &mut [u8],
-) -> Verdict
+) -> Result<(), Refusal>
     ensures { let c = cells.old in let m = marks.old in
         Promise (verdict seed rows events (length c) (length m)) (load seed rows events) c m result cells.new marks.new }
 {
-    match check(seed, rows, events, cells.len(), marks.len()) {
-        Verdict::Refused(number, place) => Verdict::Refused(number, place),
-        Verdict::Fine => {
-            let state = draw_cells(seed, rows, events, cells);
-            draw_marks(state, rows, marks);
-            Verdict::Fine
-        }
-    }
+    check(seed, rows, events, cells.len(), marks.len())?;
+    let state = draw_cells(seed, rows, events, cells);
+    draw_marks(state, rows, marks);
+    Ok(())
 }

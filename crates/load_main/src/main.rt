@@ -4,10 +4,8 @@
 ghost use Rattle.std.specs.Prelude.{◌≡◌, length};
 
 use lines::put_refusal;
-use offsets::Listed;
 use printing::put_line;
-use reduction_rules::Answer;
-use rules::Offset;
+use rules::Refusal;
 use std::io;
 
 // Every event counts.
@@ -35,8 +33,19 @@ fn zeros<const N: usize>() -> [u16; N]
     [0; N]
 }
 
+// The table of 1,024 rows and 32 events that stands in cells and marks, with row 0 as its start.
+fn largest<'a>(cells: &'a [u16], marks: &'a [u8]) -> rules::Table<'a> {
+    rules::Table {
+        rows: 1024,
+        events: 32,
+        start: 0,
+        cells,
+        marks,
+    }
+}
+
 // Reduces a table of 1,024 rows and 32 events.
-fn reduce(offset: Offset, cells: &[u16], marks: &[u8]) -> Answer {
+fn reduce(offset: Option<u16>, cells: &[u16], marks: &[u8]) -> Result<usize, Refusal> {
     let mut newcells = [0u16; 32768];
     let mut newmarks = [0u8; 128];
     let mut scratch = zeros::<527872>();
@@ -44,11 +53,7 @@ fn reduce(offset: Offset, cells: &[u16], marks: &[u8]) -> Answer {
         ways::Way::First,
         offset,
         ALL,
-        1024,
-        32,
-        0,
-        cells,
-        marks,
+        largest(cells, marks),
         &mut newcells,
         &mut newmarks,
         &mut scratch,
@@ -56,28 +61,34 @@ fn reduce(offset: Offset, cells: &[u16], marks: &[u8]) -> Answer {
 }
 
 // Puts a new row count.
-fn put_reduced(out: &mut [u8], at: usize, name: &[u8], answer: Answer) -> usize {
+fn put_reduced(out: &mut [u8], at: usize, name: &[u8], answer: Result<usize, Refusal>) -> usize {
     match answer {
-        Answer::Reduced(rows) => put_line(out, at, name, &[rows]),
-        Answer::Refused(number, place) => put_refusal(out, at, number, place),
+        Ok(rows) => put_line(out, at, name, &[rows]),
+        Err(refusal) => put_refusal(out, at, refusal.rule.number(), refusal.place),
     }
 }
 
 // Lists the fewest rows of a table of 1,024 rows and 32 events at every offset.
-fn sheet(cells: &[u16], marks: &[u8], list: &mut [u16]) -> Listed {
+fn sheet(cells: &[u16], marks: &[u8], list: &mut [u16]) -> Result<usize, Refusal> {
     let mut scratch = zeros::<527872>();
-    offsets::write_sheet(ALL, 1024, 32, 0, cells, marks, list, &mut scratch)
+    offsets::write_sheet(ALL, largest(cells, marks), list, &mut scratch)
 }
 
 // An entry of a sheet.
 fn entry(list: &[u16], k: usize) -> usize {
-    rules::wide(scratch::cell(list, k))
+    scratch::cell(list, k) as usize
 }
 
 // Puts some entries of a sheet.
-fn put_listed(out: &mut [u8], at: usize, name: &[u8], answer: Listed, list: &[u16]) -> usize {
+fn put_listed(
+    out: &mut [u8],
+    at: usize,
+    name: &[u8],
+    answer: Result<usize, Refusal>,
+    list: &[u16],
+) -> usize {
     match answer {
-        Listed::Entries(n) => put_line(
+        Ok(n) => put_line(
             out,
             at,
             name,
@@ -89,7 +100,7 @@ fn put_listed(out: &mut [u8], at: usize, name: &[u8], answer: Listed, list: &[u1
                 entry(list, 2048),
             ],
         ),
-        Listed::Refused(number, place) => put_refusal(out, at, number, place),
+        Err(refusal) => put_refusal(out, at, refusal.rule.number(), refusal.place),
     }
 }
 
@@ -101,12 +112,13 @@ fn main(rt: HostRuntime) -> io::Result<()> {
     let mut marks = [0u8; 128];
     marks[127] = 128;
     fill_chain(&mut cells);
-    let chain = reduce(Offset::Number(1023), &cells, &marks);
+    let chain = reduce(Some(1023), &cells, &marks);
     let mut n = put_reduced(&mut out, 0, b"chain", chain);
     let chained = sheet(&cells, &marks, &mut list);
     n = put_listed(&mut out, n, b"chain sheet", chained, &list);
-    load::generate(1, 1024, 32, &mut cells, &mut marks);
-    let drawn = reduce(Offset::None, &cells, &marks);
+    // Seed 1 and these counts and buffers break no rule.
+    let _ = load::generate(1, 1024, 32, &mut cells, &mut marks);
+    let drawn = reduce(None, &cells, &marks);
     n = put_reduced(&mut out, n, b"drawn", drawn);
     let listed = sheet(&cells, &marks, &mut list);
     n = put_listed(&mut out, n, b"drawn sheet", listed, &list);

@@ -11,9 +11,9 @@ use lib.Seq.{take-append_seam}
 use Rattle.tables.specs.Table.{Table, Offset, Valid, machine, events_of, weight_by}
 use Rattle.tables.specs.Reduction.{Fate, kept_as, folded_into, unreached, fate_of}
 use Rattle.tables.proofs.Counted.{mask_light}
-use Rattle.rules.specs.Rules.{mask_rule}
-use Rattle.rules.specs.declared.Verdict.{Verdict}
-use Rattle.rules.specs.declared.Verdict.TheVariants.{Fine, Refused}
+use Rattle.rules.specs.Rules.{Verdict, number_of, sound, mask_rule}
+use Rattle.std.specs.Prelude.{Err}
+use Rattle.rules.specs.declared.Refusal.{Refusal}
 use Rattle.scratch.proofs.Works.{valid_within}
 use Rattle.pairs.specs.Pairs.{pair_at, needed, workable}
 use Rattle.pairs.proofs.Triangle.{triangle_le, triangle_square}
@@ -47,9 +47,9 @@ module _ (n events : ℕ) (cells s : List ℕ) (q : ℕ) {p : ℕ} (hp : p ≡ i
   pub line-none : p ≡ q → Puts out at (line_at n events cells s q) out at
   line-none e = puts_as (line_is ∙ rw (eq-eqb p q e)) (puts_none out at)
 
-  pub line-loss : (p ≡ q → ⊥) → {run after : List ℕ} {d f end : ℕ} → run ≡ walked cells events s n q p → d ≡ (measure_in (pair_at s q p)).distance → f ≡ d
+  pub line-loss : (p ≡ q → ⊥) → {run after : List ℕ} {f end : ℕ} → run ≡ walked cells events s n q p → f ≡ (measure_in (pair_at s q p)).distance
       → Puts out at (loss_line q p f run) after end → Puts out at (line_at n events cells s q) after end
-  line-loss other hr hd hf h = puts_as (line_is ∙ rw (ne_eqb p q other) (sym (ap₂ (loss_line q p) (hf ∙ hd) hr))) h
+  line-loss other hr hf h = puts_as (line_is ∙ rw (ne_eqb p q other) (sym (ap₂ (loss_line q p) hf hr))) h
 
 -- ---- its meaning
 fate_line_lem : (q p : ℕ) (g : Loss) (f : Fate) → ((r : ℕ) → f ≡ folded_into r → eqb r q ≡ false) → p ≡ into_by q f → cond (eqb p q) [] (loss_line q p g.far g.run) ≡ fate_line q g f
@@ -83,10 +83,10 @@ module _ (k : Offset) (mask : ℕ) (T : Table) (v : Valid T) (few : T.rows ≤ 1
   judged_so : verdict mask T 0 8640 ≡ mask_rule mask T.events
   judged_so = by_mask mask T 0 8640 v v.some_row fits
 
-  pub refusal_is : {u : Verdict} (number place : ℕ) → u ≡ verdict mask T 0 8640 → u ≡ Refused number place → refusal_line number place ≡ masked_text mask (text_of_losses k mask) T
-  refusal_is number place h e = ap (λ (w : Verdict). text_by w (text_of_losses k mask T)) (sym e ∙ h ∙ judged_so)
+  pub refusal_is : {u : Verdict} {r : Refusal} → u ≡ verdict mask T 0 8640 → u ≡ Err r → refusal_line (number_of r.rule) r.place ≡ masked_text mask (text_of_losses k mask) T
+  refusal_is h e = ap (λ (w : Verdict). text_by w (text_of_losses k mask T)) (sym e ∙ h ∙ judged_so)
 
-  pub text_is : {u : Verdict} (s : List ℕ) {t : List ℕ} → u ≡ verdict mask T 0 8640 → u ≡ Fine → length s ≡ 8640 → t ≡ folded_in mask k T s
+  pub text_is : {u : Verdict} (s : List ℕ) {t : List ℕ} → u ≡ verdict mask T 0 8640 → u ≡ sound → length s ≡ 8640 → t ≡ folded_in mask k T s
       → joined T.rows (line_at T.rows T.events T.cells t) ≡ masked_text mask (text_of_losses k mask) T
   text_is {u} s {t} h e size ht =
       let w = valid_within needed T (length s) v (omega (arith, fits)) in

@@ -2,15 +2,14 @@
 // What the program `given_up` makes of the bytes that it reads: the text that it prints.
 ghost use Rattle.std.specs.Prelude.{◌≡◌, ◌≤◌, min, length};
 ghost use Rattle.tables.specs.Table.{Valid};
-ghost use Rattle.rules.specs.Rules.{table_of, offset_of};
+ghost use Rattle.rules.specs.Rules.{lent, offset_of};
 ghost use Rattle.text.specs.Text.{joined, filled, Puts};
-ghost use Rattle.image_text.specs.ImageText.{text_of_image, masked_text};
+ghost use Rattle.image_text.specs.ImageText.{masked_text};
 ghost use Rattle.loss_desk.specs.Lines.{line_at};
 ghost use Rattle.loss_desk.specs.Printed.{text_of_losses, printed};
 
-use image_sections::Read;
-use image_text::Loaded;
-use rules::{Offset, Verdict};
+use image_text::TableText;
+use rules::Table;
 
 // Writes the line of a row, if it folds into another.
 fn put_row(
@@ -31,8 +30,8 @@ fn put_row(
     }
     let mut run = [0u8; 128];
     let length = walks::walk(rows, events, cells, scratch, row, into, &mut run);
-    let far = losses::distance(scratch, row, into);
-    loss_text::put_loss(out, at, row, into, rules::wide(far), &run[..length])
+    let far = losses::distance(scratch, row, into) as usize;
+    loss_text::put_loss(out, at, row, into, far, &run[..length])
 }
 
 // Writes the lines of all rows.
@@ -41,70 +40,53 @@ fn put_rows(out: &mut [u8], rows: u16, events: u16, cells: &[u16], scratch: &[u1
     ensures { Puts out.old 0 (joined rows (line_at rows events cells.now scratch.now)) out.new result }
 {
     let mut next = 0;
-    let mut row = 0u16;
-    while row < rows {
+    for row in 0..rows {
         next = put_row(out, next, rows, events, cells, scratch, row);
-        row += 1;
     }
     next
 }
 
 // Writes the lines of a valid table of at most 128 rows, or the refusal of its mask.
-fn write_losses(
-    offset: Offset,
-    mask: u32,
-    rows: usize,
-    events: usize,
-    start: usize,
-    cells: &[u16],
-    marks: &[u8],
-    out: &mut [u8],
-) -> usize
-    requires { Valid (table_of rows events start cells.now marks.now) × (rows ≤ 128) }
-    ensures { Puts out.old 0 (masked_text mask (text_of_losses (offset_of offset) mask) (table_of rows events start cells.now marks.now)) out.new result }
+fn write_losses(offset: Option<u16>, mask: u32, table: Table<'_>, out: &mut [u8]) -> usize
+    requires { Valid (lent table) × (table.rows ≤ 128) }
+    ensures { Puts out.old 0 (masked_text mask (text_of_losses (offset_of offset) mask) (lent table.entry)) out.new result }
 {
     let mut scratch = [0u16; 8640];
-    match last_run_rules::check(mask, rows, events, start, cells, marks, 0, 8640) {
-        Verdict::Refused(number, place) => lines::put_refusal(out, 0, number, place),
-        Verdict::Fine => {
+    match last_run_rules::check(mask, table, 0, 8640) {
+        Err(of_mask) => lines::put_refusal(out, 0, of_mask.rule.number(), of_mask.place),
+        Ok(()) => {
             folding::fold_rows(
                 offset,
                 mask,
-                rows,
-                events,
-                start,
-                cells,
-                marks,
+                table.rows,
+                table.events,
+                table.start,
+                table.cells,
+                table.marks,
                 &mut scratch,
             );
-            put_rows(out, rows as u16, events as u16, cells, &scratch)
+            put_rows(
+                out,
+                table.rows as u16,
+                table.events as u16,
+                table.cells,
+                &scratch,
+            )
         }
     }
 }
 
-// Writes the text for an image.
-fn write_image_text(offset: Offset, mask: u32, image: &[u8], out: &mut [u8]) -> usize
-    ensures { Puts out.old 0 (text_of_image (masked_text mask (text_of_losses (offset_of offset) mask)) image.now) out.new result }
-{
-    let Loaded {
-        read,
-        cells,
-        marks,
-        count,
-        bytes,
-    } = image_text::load(image);
-    match read {
-        Read::Refused(number, place) => lines::put_refusal(out, 0, number, place),
-        Read::Table(rows, events, start) => write_losses(
-            offset,
-            mask,
-            rows,
-            events,
-            start,
-            &cells[..count],
-            &marks[..bytes],
-            out,
-        ),
+// What the folded rows of a table give up, from an offset on.
+#[derive(Clone, Copy)]
+struct GivenUp {
+    offset: Option<u16>,
+}
+
+impl TableText for GivenUp {
+    ghost text = { λ l mask. text_of_losses (offset_of l.offset) mask };
+
+    fn write(&self, mask: u32, table: Table<'_>, out: &mut [u8]) -> usize {
+        write_losses(self.offset, mask, table, out)
     }
 }
 
@@ -119,5 +101,5 @@ pub fn write_loss_text(input: &[u8], out: &mut [u8]) -> usize
     }
     let offset = image_text::offset_of(input[0], input[1]);
     let mask = image_text::mask_of(input[2], input[3], input[4], input[5]);
-    write_image_text(offset, mask, &input[6..], out)
+    image_text::write_image_text(&GivenUp { offset }, mask, &input[6..], out)
 }

@@ -12,11 +12,9 @@ fn put_events(out: &mut [u8], at: usize, run: &[u8]) -> usize
         Puts out.old at (joined (length l) (event_word l)) out.new result }
 {
     let mut next = at;
-    let mut i = 0;
-    while i < run.len() {
+    for event in run {
         let spaced = put_byte(out, next, b' ');
-        next = put_number(out, spaced, run[i] as usize);
-        i += 1;
+        next = put_number(out, spaced, *event as usize);
     }
     next
 }

@@ -9,6 +9,7 @@ ghost use Rattle.last_run_rules.specs.Checks.{run_rule, answer_by};
 ghost use Rattle.losses.specs.Losses.{into_at, loss_at};
 
 use last_run_rules::Told;
+use rules::{Refusal, Rule};
 
 // The row into which a row folds; the row itself, if it is unreached.
 pub fn into(scratch: &[u16], rows: u16, row: u16) -> u16
@@ -17,7 +18,7 @@ pub fn into(scratch: &[u16], rows: u16, row: u16) -> u16
     if lengths::lead(scratch, rows, row) == 0 {
         return row;
     }
-    scratch::cell(scratch, pairs::folds_at(rows) + rules::wide(row))
+    scratch::cell(scratch, pairs::folds_at(rows) + row as usize)
 }
 
 // The distance of two rows.
@@ -45,7 +46,7 @@ pub fn tell(
     scratch: &[u16],
     row: u16,
     run: &mut [u8],
-) -> Told
+) -> Result<Told, Refusal>
     ensures { let g = loss_at rows events cells.now scratch.now row in let room = run.old in
         let v = run_rule (length g.run) (length room) in
         (result ≡ answer_by v g)
@@ -54,9 +55,9 @@ pub fn tell(
     let into = into(scratch, rows, row);
     let length = run_length(rows, events, cells, scratch, row, into);
     if run.len() < length {
-        return Told::Refused(18, 0);
+        return Err(Rule::Run.at(0));
     }
     walks::walk(rows, events, cells, scratch, row, into, run);
-    let far = distance(scratch, row, into);
-    Told::Run(rules::wide(far), length)
+    let distance = distance(scratch, row, into) as usize;
+    Ok(Told { distance, length })
 }

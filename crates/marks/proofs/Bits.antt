@@ -6,10 +6,12 @@ use Prim.Native.Nat.{ℕ, zero, suc, ◌+◌, ◌-◌, ◌*◌, ◌/◌, ◌%◌
 use native.Mathlib.Nat.{add-mul, zero-div, zero-mod, mod-lt, div-add-mod', div-lt_iff_lt-mul, pow-suc}
 use native.Mathlib.Decide.{dec_lt}
 use native.Mathlib.Numerals.{one-add}
+use borrow.Author.Tests.{eq-eqb, ne_eqb}
 use native.Mathlib.Omega.{arith}
 use lib.Arith.{lt-one}
 use lib.Bits.{bit_and, bit_or, and_step, and_le_l, and_high, or_add_and}
 use lib.ListN.{length, get_or-eq_default}
+use lib.Seq.{set_out}
 use lib.Pow.{pow_pos, pow-lt, pow-add, shr_lt, shr-shr, split, high, low, field, mod-mod-pow}
 use Rattle.tables.specs.Table.{mark_of}
 use Rattle.marks.specs.Marks.{with_bit}
@@ -43,6 +45,9 @@ set-bit b i h = rw shifted (omega (arith, or_add_and b (2 ^ i), and-bit b i, and
 
 pub clear_bit : (b i : ℕ) → b < 256 → i < 8 → bit_and b (255 - 1 * 2 ^ i % 256) ≡ with_bit b i 0
 clear_bit b i hb h = rw shifted (omega (arith, and-not 8 b (2 ^ i) hb (pow-lt h), and-bit b i))
+
+-- For `put_mark`: a bit set or cleared, and a place beyond the bytes.
+pub ruleset bit_put = (set-bit, clear_bit, eq-eqb, ne_eqb, set_out)
 
 -- ---- the bits of `with_bit`
 

@@ -14,34 +14,30 @@ pub struct Measure {
 }
 
 // How a run begins, from the number that stands for it: an event, or 32 for the end.
+#[tactic(auto, unfolding(crate::specs::Measures::begin_in))]
 fn begin(number: u16) -> First
     ensures { result ≡ begin_in number }
 {
-    if number == 32 {
-        return First::End;
+    match number {
+        32 => First::End,
+        event => First::Event(event),
     }
-    First::Event(number)
 }
 
 // What a cell says.
+#[tactic(auto, unfolding(crate::specs::Measures::measure_in))]
 pub fn read(cell: u16) -> Measure
     ensures { result ≡ measure_in cell }
 {
-    if cell < 1056 {
-        return Measure {
+    match cell {
+        0..1056 | 65535 => Measure {
             distance: cell,
             first: First::Unsettled,
-        };
-    }
-    if cell == 65535 {
-        return Measure {
-            distance: cell,
-            first: First::Unsettled,
-        };
-    }
-    Measure {
-        distance: cell / 33 - 31,
-        first: begin(cell % 33),
+        },
+        _ => Measure {
+            distance: cell / 33 - 31,
+            first: begin(cell % 33),
+        },
     }
 }
 

@@ -12,9 +12,9 @@ use Rattle.tables.proofs.Over.{front_at}
 use Rattle.tables.proofs.Reduced.{sound_of}
 use Rattle.tables.proofs.Counted.{mask_light}
 use Rattle.tables.proofs.Theorems.{rows_kept, never_grows, far-offset, fewest}
-use Rattle.rules.specs.Rules.{left_by}
-use Rattle.rules.specs.declared.Verdict.{Verdict}
-use Rattle.rules.specs.declared.Verdict.TheVariants.{Fine, Refused}
+use Rattle.rules.specs.Rules.{Verdict, sound, left_by}
+use Rattle.std.specs.Prelude.{Result, Ok, Err}
+use Rattle.rules.specs.declared.Refusal.{Refusal}
 use Rattle.pairs.specs.Pairs.{needed}
 use Rattle.scratch.specs.Scratch.{scratch_cells, cleared}
 use Rattle.pairs.proofs.Triangle.{needed-value}
@@ -27,8 +27,6 @@ use Rattle.sheet_rules.specs.Checks.{entries, verdict}
 use Rattle.sheet_rules.proofs.Room.{Roomy, fine-roomy}
 use Rattle.sheet_counts.specs.Steps.{kept_at, filled}
 use Rattle.sheet_counts.proofs.Filled.{filled-all}
-use Rattle.offsets.specs.declared.Listed.{Listed}
-use Rattle.offsets.specs.declared.Listed.TheVariants as listed
 use Rattle.offsets.specs.Sheet.{sheet, answer_by, Promise}
 use Rattle.offsets.proofs.Meaning.{kept_held}
 
@@ -43,16 +41,16 @@ sheet-found mask T from s v a =
     ∙ sym (rows_kept (weight_by mask) z.at_most T v (offset k)))
 
 -- An answer with entries is given where no rule is broken.
-wrote : (v : Verdict) (m n : ℕ) → answer_by v m ≡ listed.Entries n → (v ≡ Fine) × (m ≡ n)
-wrote Fine m n e = (refl, cc)
-wrote (Refused number place) m n e = let z : ◌≡◌ {A = ℕ} 0 1 = cc in absurd (omega arith)
+wrote : (v : Verdict) (m n : ℕ) → answer_by v m ≡ Ok n → (v ≡ sound) × (m ≡ n)
+wrote (Ok u) m n e = (refl, cc)
+wrote (Err r) m n e = let z : ◌≡◌ {A = ℕ} 0 1 = cc in absurd (omega arith)
 
 module _ (mask : ℕ) (T : Table) (bytes : (i : ℕ) → get_or T.marks i 0 < 256) (list scratch : List ℕ) where
   abbrev v : Verdict
   v = verdict mask T (length list) (length scratch)
 
   -- What the entries say, once they are the sheet's.
-  module _ (list' : List ℕ) (h : list' ≡ left_by v list (sheet (weight_by mask) T)) (e : v ≡ Fine) where
+  module _ (list' : List ℕ) (h : list' ≡ left_by v list (sheet (weight_by mask) T)) (e : v ≡ sound) where
     roomy : Roomy T (length list) (length scratch)
     roomy = fine-roomy mask T (length list) (length scratch) bytes e
 
@@ -73,10 +71,10 @@ module _ (mask : ℕ) (T : Table) (bytes : (i : ℕ) → get_or T.marks i 0 < 25
     entry-fewest : (k : ℕ) → k < entries T.rows → (N : Table) → Valid N → N.events ≡ T.events → Agrees (weight_by mask) (offset k) T N → get_or list' k 0 ≤ N.rows
     entry-fewest k g N w same a = omega (arith, entry_is k g, fewest (weight_by mask) (mask_light mask T).at_most T roomy.valid (offset k) N w same a)
 
-  promise : (r : Listed) (list' scratch' : List ℕ) → r ≡ answer_by v (entries T.rows) → list' ≡ left_by v list (sheet (weight_by mask) T)
+  promise : (r : Result ℕ Refusal) (list' scratch' : List ℕ) → r ≡ answer_by v (entries T.rows) → list' ≡ left_by v list (sheet (weight_by mask) T)
       → scratch' ≡ left_by v scratch (replicate (scratch_cells T.rows) 0) → Promise v mask T list scratch r list' scratch'
   promise r list' scratch' hr hl hs =
-      let fine : (n : ℕ) → r ≡ listed.Entries n → (v ≡ Fine) × (entries T.rows ≡ n) = λ n e. wrote v (entries T.rows) n (sym hr ∙ e) in
+      let fine : (n : ℕ) → r ≡ Ok n → (v ≡ sound) × (entries T.rows ≡ n) = λ n e. wrote v (entries T.rows) n (sym hr ∙ e) in
       record {
         answers = hr;
         list_after = hl;
@@ -89,13 +87,13 @@ module _ (mask : ℕ) (T : Table) (bytes : (i : ℕ) → get_or T.marks i 0 < 25
 
   -- The code's verdict u is the verdict.
   module _ {u : Verdict} (hu : u ≡ v) where
-    pub promised-refused : (number place : ℕ) → u ≡ Refused number place → Promise v mask T list scratch (listed.Refused number place) list scratch
-    promised-refused number place e =
-        let w : v ≡ Refused number place = sym hu ∙ e in
-        promise (listed.Refused number place) list scratch (sym (ap (λ (x : Verdict). answer_by x (entries T.rows)) w)) (sym (ap (λ (x : Verdict). left_by x list (sheet (weight_by mask) T)) w))
+    pub promised-refused : (r : Refusal) → u ≡ Err r → Promise v mask T list scratch (Err r) list scratch
+    promised-refused r e =
+        let w : v ≡ Err r = sym hu ∙ e in
+        promise (Err r) list scratch (sym (ap (λ (x : Verdict). answer_by x (entries T.rows)) w)) (sym (ap (λ (x : Verdict). left_by x list (sheet (weight_by mask) T)) w))
         (sym (ap (λ (x : Verdict). left_by x scratch (replicate (scratch_cells T.rows) 0)) w))
 
-    module _ (e : u ≡ Fine) where
+    module _ (e : u ≡ sound) where
       pub fine-rows : T.rows ≤ 1024
       fine-rows = (fine-roomy mask T (length list) (length scratch) bytes (sym hu ∙ e)).valid.rows_fit
 
@@ -113,11 +111,11 @@ module _ (mask : ℕ) (T : Table) (bytes : (i : ℕ) → get_or T.marks i 0 < 25
         fine-from = omega (arith, told.0, from_low T.rows, found.size, (fine-roomy mask T (length list) (length scratch) bytes (sym hu ∙ e)).scratch_fits)
 
         pub promised-fine : (list' : List ℕ) {to : ℕ} {scratch' : List ℕ} → list' ≡ filled from T.rows s list
-            → to ≡ needed T.rows → scratch' ≡ cleared s 0 to → Promise v mask T list scratch (listed.Entries (2 * T.rows + 1)) list' scratch'
+            → to ≡ needed T.rows → scratch' ≡ cleared s 0 to → Promise v mask T list scratch (Ok (2 * T.rows + 1)) list' scratch'
         promised-fine list' {to} {scratch'} hl ht hc =
-            let w : v ≡ Fine = sym hu ∙ e in
+            let w : v ≡ sound = sym hu ∙ e in
             let r = fine-roomy mask T (length list) (length scratch) bytes w in
-            promise (listed.Entries (2 * T.rows + 1)) list' scratch' (sym (ap (λ (x : Verdict). answer_by x (entries T.rows)) w))
+            promise (Ok (2 * T.rows + 1)) list' scratch' (sym (ap (λ (x : Verdict). answer_by x (entries T.rows)) w))
             (hl ∙ filled-all from T.rows s list fine-list fine-from
             ∙ ap (λ (x : ℕ). over list 0 (tabulate (entries T.rows) (kept_at x T.rows s))) told.0
             ∙ ap (over list 0) (sheet-found mask T (leads_from T.rows) s r.valid found.aparts)

@@ -1,49 +1,43 @@
 #![tactic(auto)]
 // The fewest rows at every offset, on one sheet.
-ghost use Rattle.std.specs.Prelude.{length};
-ghost use Rattle.rules.specs.Rules.{table_of};
+ghost use Rattle.std.specs.Prelude.{◌≡◌, ℕ, ◌<◌, length, get_or};
+ghost use Rattle.rules.specs.Rules.{lent};
 ghost use Rattle.sheet_rules.specs.Checks.{verdict};
 ghost use Rattle.offsets.specs.Sheet.{Promise};
 
-// How many entries were written, or the number and place of the first rule broken.
-#[derive(Clone, Copy)]
-pub enum Listed {
-    Entries(usize),
-    Refused(usize, usize),
+use rules::{Refusal, Table};
+
+// The same marks. Each is a byte: the type of a slice says so to a proof, that of a table does not.
+fn bytes(marks: &[u8]) -> &[u8]
+    ensures { (result.now ≡ marks.now) × ((i : ℕ) → get_or marks.now i 0 < 256) }
+{
+    marks
 }
 
-// Lists the fewest rows of a table at every offset from 0 to twice its rows, where a mask says which events count.
+// Lists the fewest rows of a table at every offset from 0 to twice its rows, where a mask says which events count; how many entries were written.
 pub fn write_sheet(
     mask: u32,
-    rows: usize,
-    events: usize,
-    start: usize,
-    cells: &[u16],
-    marks: &[u8],
+    table: Table<'_>,
     list: &mut [u16],
     scratch: &mut [u16],
-) -> Listed
-    ensures { let T = table_of rows events start cells.now marks.now in
+) -> Result<usize, Refusal>
+    ensures { let T = lent table.entry in
         let l = list.old in let s = scratch.old in
         Promise (verdict mask T (length l) (length s)) mask T l s result list.new scratch.new }
 {
-    match sheet_rules::check(
+    let _ = bytes(table.marks);
+    sheet_rules::check(mask, table, list.len(), scratch.len())?;
+    let from = apart::find_apart(
         mask,
-        rows,
-        events,
-        start,
-        cells,
-        marks,
-        list.len(),
-        scratch.len(),
-    ) {
-        rules::Verdict::Refused(number, place) => Listed::Refused(number, place),
-        rules::Verdict::Fine => {
-            let from = apart::find_apart(mask, rows, events, start, cells, marks, scratch);
-            let n = rows as u16;
-            sheet_counts::fill(scratch, from, n, list);
-            scratch::clear(scratch, 0, pairs::needed(n));
-            Listed::Entries(2 * rows + 1)
-        }
-    }
+        table.rows,
+        table.events,
+        table.start,
+        table.cells,
+        table.marks,
+        scratch,
+    );
+    let n = table.rows as u16;
+    sheet_counts::fill(scratch, from, n, list);
+    scratch::clear(scratch, 0, pairs::needed(n));
+    Ok(2 * table.rows + 1)
 }

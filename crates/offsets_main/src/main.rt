@@ -2,15 +2,15 @@
 // The sheets of document 01's tables to try and of tables with idle events, and the refusals 1 to 7, 13 and 16: the answer, then the lent list and the scratch as they
 // are afterwards. Both are lent with a number in each cell and, but for 7 and 13, longer than named. Lines are put into one buffer.
 use lines::put_refusal;
-use offsets::Listed;
 use printing::{put_cells, put_line};
+use rules::{Refusal, Table};
 use std::io;
 
 // Puts what is answered.
-fn put_answer(out: &mut [u8], at: usize, answer: Listed) -> usize {
+fn put_answer(out: &mut [u8], at: usize, answer: Result<usize, Refusal>) -> usize {
     match answer {
-        Listed::Entries(n) => put_line(out, at, b"entries", &[n]),
-        Listed::Refused(number, place) => put_refusal(out, at, number, place),
+        Ok(n) => put_line(out, at, b"entries", &[n]),
+        Err(refusal) => put_refusal(out, at, refusal.rule.number(), refusal.place),
     }
 }
 
@@ -19,15 +19,11 @@ fn put_sheet(
     out: &mut [u8],
     at: usize,
     mask: u32,
-    rows: usize,
-    events: usize,
-    start: usize,
-    cells: &[u16],
-    marks: &[u8],
+    table: Table<'_>,
     list: &mut [u16],
     scratch: &mut [u16],
 ) -> usize {
-    let answer = offsets::write_sheet(mask, rows, events, start, cells, marks, list, scratch);
+    let answer = offsets::write_sheet(mask, table, list, scratch);
     let answered = put_answer(out, at, answer);
     let listed = put_cells(out, answered, list);
     put_cells(out, listed, scratch)
@@ -46,23 +42,26 @@ fn put_ample(
 ) -> usize {
     let mut list = [9999u16; 10];
     let mut scratch = [7777u16; 24];
-    put_sheet(
-        out,
-        at,
-        mask,
+    let table = Table {
         rows,
         events,
         start,
         cells,
-        &[mark],
-        &mut list,
-        &mut scratch,
-    )
+        marks: &[mark],
+    };
+    put_sheet(out, at, mask, table, &mut list, &mut scratch)
 }
 
 // Table C, with a list and a scratch of given lengths.
 fn put_c(out: &mut [u8], at: usize, mask: u32, list: &mut [u16], scratch: &mut [u16]) -> usize {
-    put_sheet(out, at, mask, 4, 1, 0, &[1, 2, 3, 3], &[2], list, scratch)
+    let table = Table {
+        rows: 4,
+        events: 1,
+        start: 0,
+        cells: &[1, 2, 3, 3],
+        marks: &[2],
+    };
+    put_sheet(out, at, mask, table, list, scratch)
 }
 
 // Tables A to D.

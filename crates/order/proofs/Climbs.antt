@@ -1,15 +1,15 @@
 -- The search, level by level, as the code counts: level L is counted as L + 1.
-use mathlib.Core.Path.{◌≡◌, refl, sym, subst, ◌∙◌}
+use mathlib.Core.Path.{◌≡◌, sym, subst}
 use mathlib.Core.List.{List}
 use Prim.Native.Nat.{ℕ, suc, ◌+◌, ◌-◌, ◌≤◌, ◌<◌}
 use native.Mathlib.Omega.{arith}
 use lib.ListN.{length, set}
 use Rattle.ordering.specs.Found.{Graph, Inside, found_at}
-use Rattle.order.specs.Search.{Framed, Spreading, Reached, Quiet, Climbing, Bare, Told, Sought}
+use Rattle.order.specs.Search.{Framed, Spreading, Climbing, Bare, Told, Sought}
 use Rattle.order.proofs.Levels.{reached-first, quiet-first, framed-first, reached-next, quiet_next, still-none, told-next, quiet_none, framed_then}
 
 module _ {G : Graph} {start : ℕ} (hs : start < G.places) where
-  pub climb_first : {s : List ℕ} → G.places ≤ length s → Bare G start s → Climbing G start 0 s (set s start 1)
+  climb_first : {s : List ℕ} → G.places ≤ length s → Bare G start s → Climbing G start 0 s (set s start 1)
   climb_first room b = record { reached = reached-first hs room b; quiet = quiet-first hs room b; framed = framed-first hs room b }
 
   module _ (inside : Inside G) {level most : ℕ} {s t u : List ℕ} (pos : 0 < level) (small : level < 4095) (g : Climbing G start (level - 1) s t) (w : Spreading G level G.places 0 t u most) where
@@ -52,16 +52,8 @@ module _ {G : Graph} {start : ℕ} (hs : start < G.places) where
 
 -- The first level, as the code counts it: u is what it put the start into.
 module _ {G : Graph} {start : ℕ} {s u : List ℕ} (room : G.places ≤ length s) (b : Bare G start s) (e : u ≡ set s start 1) where
-  pub climb_begin : Climbing G start (1 - 1) u u
-  climb_begin =
-      let g = climb_first b.start_inside room b in
-      record { reached = subst (Reached G start 0) (sym e) g.reached; quiet = subst (Quiet G 0) (sym e) g.quiet; framed = record { size = refl; beyond = λ i h. refl } }
-
   begun : Framed G s u
   begun = subst (Framed G s) (sym e) (climb_first b.start_inside room b).framed
-
-  pub begun-size : {t : List ℕ} → Framed G u t → length t ≡ length s
-  begun-size f = f.size ∙ begun.size
 
   pub sought_from : {bound r : ℕ} {t : List ℕ} → Sought G start bound u t r → Sought G start bound s t r
   sought_from w = record { framed = framed_then begun w.framed; none = w.none; some = w.some }

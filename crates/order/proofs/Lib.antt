@@ -1,6 +1,4 @@
-pub mod Rows
 pub mod Spreads
-pub mod Meeting
 pub mod Events
 pub mod Levels
 pub mod Climbs

@@ -1,5 +1,5 @@
 -- A sweep that tells pairs of a level what those of the next say, and what it leaves.
-use mathlib.Core.Path.{◌≡◌, refl, sym, ap, subst, ◌∙◌}
+use mathlib.Core.Path.{◌≡◌, sym, ap, subst, ◌∙◌}
 use mathlib.Core.List.{List}
 use mathlib.Core.Logic.{inl, inr}
 use Prim.Native.Nat.{ℕ, zero, suc, ◌+◌, ◌-◌, ◌*◌, ◌/◌, ◌%◌, ◌≤◌, ◌<◌}
@@ -17,7 +17,7 @@ use Rattle.order.specs.Search.{Framed, told_from, settled_to, Settling, Told}
 
 -- ---- what a cell tells
 
-pub tells_at : (level c : ℕ) → c % 4096 ≡ level → tells level c ≡ c / 4096
+tells_at : (level c : ℕ) → c % 4096 ≡ level → tells level c ≡ c / 4096
 tells_at level c e = rw (eq-eqb (c % 4096) level e)
 
 pub tells_none : (level c : ℕ) → ¬ (c % 4096 ≡ level) → tells level c ≡ 0
@@ -33,12 +33,9 @@ module _ (G : Graph) (level : ℕ) (s : List ℕ) (k : ℕ) where
 
 module _ {G : Graph} {level : ℕ} (small : level < 4095) where
   -- ---- the sweep
-  pub settle_none : {s : List ℕ} → Settling G level 0 s s
-  settle_none = record { done = λ k hk h. absurd (omega arith); left = λ k h. refl; size = refl }
-
   module _ {s t : List ℕ} {at : ℕ} (w : Settling G level at s t) where
     -- A cell keeps its level.
-    pub same-level : (k : ℕ) → k < G.places → level_at t k ≡ level_at s k
+    same-level : (k : ℕ) → k < G.places → level_at t k ≡ level_at s k
     same-level k hk = elim (dec_lt k at) [
       | no h ↦ ap (λ (c : ℕ). c % 4096) (w.left k (omega arith))
       | yes h ↦ elim (ℕ_discrete (get_or s k 0) level) [
@@ -89,10 +86,6 @@ module _ {G : Graph} {level : ℕ} (small : level < 4095) where
         size = w.size;
       }
 
--- All pairs were gone through.
-pub settle_end : {G : Graph} {level at n : ℕ} {s t : List ℕ} → at ≡ n → Settling G level at s t → Settling G level n s t
-settle_end {G} {level} {s} {t} e = subst (λ (i : ℕ). Settling G level i s t) e
-
 -- ---- what the sweep over level i leaves
 module _ {G : Graph} {start : ℕ} (hs : start < G.places) (inside : Inside G) {L i : ℕ} {s t : List ℕ} (small : suc i < 4095) (lower : i < L) (few : suc L < 4096)
     (g : Told G start L (suc i) s) (w : Settling G (suc i) G.places s t) where
@@ -112,7 +105,7 @@ module _ {G : Graph} {start : ℕ} (hs : start < G.places) (inside : Inside G) {
       (λ a ha l. tells_at (suc (suc i)) (get_or s (G.step k a) 0) l ∙ (let f = g.told (G.step k a) (suc i) n (inside k a hk ha) l (omega arith) (omega arith) in omega arith))
       (λ a ha l. tells_none (suc (suc i)) (get_or s (G.step k a) 0) l))
 
-  pub told-before : Told G start L i t
+  told-before : Told G start L i t
   told-before = record {
     met = met_same hs inside g.met level_same;
     told = λ k j n hk e h f. elim (ℕ_discrete j i) [
@@ -136,7 +129,3 @@ module _ {G : Graph} {start : ℕ} (hs : start < G.places) (inside : Inside G) w
 
 pub settle_framed : {G : Graph} {level : ℕ} {s t : List ℕ} → Settling G level G.places s t → Framed G s t
 settle_framed w = record { size = w.size; beyond = w.left }
-
--- The first level is told last.
-pub told-first : {G : Graph} {start L level : ℕ} {s : List ℕ} → level ≡ 1 → Told G start L (level - 1) s → Told G start L 0 s
-told-first {G} {start} {L} {s} e g = subst (λ (i : ℕ). Told G start L (i - 1) s) e g

@@ -171,7 +171,3 @@ module _ {G : Graph} (inside : Inside G) {level : ℕ} {s : List ℕ} (room : G.
             subst₂ (λ (u : List ℕ) (r : ℕ). Spreading G level k (suc i) s u r)
             (sym (ap (set t x) (met_kept m (suc level) (get_or t x 0) z) ∙ set-get_or t x 0)) (sym (raised_kept most m (get_or t x 0) z)) (again z)
       ]
-
--- All pairs were gone through.
-pub spread_end : {G : Graph} {level k n most : ℕ} {s t : List ℕ} → k ≡ n → Spreading G level k 0 s t most → Spreading G level n 0 s t most
-spread_end {G} {level} {most} {s} {t} e = subst (λ (i : ℕ). Spreading G level i 0 s t most) e

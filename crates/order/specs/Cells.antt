@@ -3,6 +3,8 @@ use Rattle.std.specs.Prelude.{cond, List, ℕ, zero, suc, ◌+◌, ◌*◌, ◌/
 use Rattle.tables.specs.Table.{mark_of}
 use Rattle.ordering.specs.Order.{by_marks}
 use Rattle.ordering.specs.Found.{number_of}
+use Rattle.order.specs.declared.Sweep.{Sweep}
+use Rattle.order.specs.declared.Sweep.TheVariants.{Nothing, Pairs, Difference}
 
 -- The level of a pair.
 abbrev pub level_at : List ℕ → ℕ → ℕ
@@ -26,6 +28,12 @@ worse most (suc m) = 2
 abbrev pub raised : ℕ → ℕ → ℕ → ℕ
 raised most m zero = worse most m
 raised most m (suc c) = most
+
+-- What a sweep has come upon, by these numbers.
+abbrev pub found_by : Sweep → ℕ
+found_by Nothing = 0
+found_by Pairs = 1
+found_by Difference = 2
 
 -- What is told of a pair by its cell, if it stands at a level.
 abbrev pub tells : ℕ → ℕ → ℕ

@@ -1,13 +1,10 @@
 -- Which rules are judged before two tables are put in order, in which order, and the answer.
-use Rattle.std.specs.Prelude.{◌≡◌, not, List, [], ◌∷◌, ◌++◌, ℕ, ◌*◌, ◌≤◌, eqb}
+use Rattle.std.specs.Prelude.{◌≡◌, not, List, [], ◌∷◌, ◌++◌, ℕ, ◌*◌, ◌≤◌, eqb, Result, Ok, Err}
 use Rattle.tables.specs.Table.{Table, Valid}
-use Rattle.rules.specs.Rules.{rule, judged, winch, room_rule, table_checks}
-use Rattle.rules.specs.declared.Verdict.{Verdict}
-use Rattle.rules.specs.declared.Verdict.TheVariants.{Fine, Refused}
+use Rattle.rules.specs.Rules.{Verdict, rule, judged, winch, room_rule, table_checks}
+use Rattle.rules.specs.declared.Rule.TheVariants.{Unlike}
+use Rattle.rules.specs.declared.Refusal.{Refusal}
 use Rattle.ordering.specs.declared.Order.{Order}
-use Rattle.ordering.specs.declared.Order.TheVariants as order
-use Rattle.order_rules.specs.declared.Ordered.{Ordered}
-use Rattle.order_rules.specs.declared.Ordered.TheVariants as ordered
 
 -- "Scratch of first rows × second rows 16-bit cells."
 abbrev pub pair_cells : ℕ → ℕ → ℕ
@@ -15,7 +12,7 @@ pair_cells rows other = rows * other
 
 -- 19: "the event counts differ".
 abbrev pub counts_rule : ℕ → ℕ → Verdict
-counts_rule events other = rule 19 (not (eqb events other)) 0
+counts_rule events other = rule Unlike (not (eqb events other)) 0
 
 -- 19, "before 7".
 abbrev pub both_checks : ℕ → ℕ → ℕ → ℕ → ℕ → List Verdict
@@ -26,11 +23,9 @@ unfoldable pub verdict : Table → Table → ℕ → Verdict
 verdict T U room = judged (table_checks winch T ++ (table_checks winch U ++ both_checks T.rows T.events U.rows U.events room))
 
 -- The answer: which table comes first, or the refusal.
-abbrev pub answer_by : Verdict → Order → Ordered
-answer_by Fine order.First = ordered.First
-answer_by Fine order.Equal = ordered.Equal
-answer_by Fine order.Second = ordered.Second
-answer_by (Refused number place) x = ordered.Refused number place
+abbrev pub answer_by : Verdict → Order → Result Order Refusal
+answer_by (Ok u) x = Ok x
+answer_by (Err r) x = Err r
 
 -- No rule broken: both tables are valid, over the same number of events, and the scratch has a cell for every pair of their rows.
 pub record Ready (T U : Table) (room : ℕ) : Type 0 where

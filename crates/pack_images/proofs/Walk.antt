@@ -8,17 +8,18 @@ use borrow.Author.Tests.{lt-ltb, le-ltb}
 use lib.ListN.{length, drop}
 use lib.Seq.{drop-drop}
 use Rattle.tables.specs.Table.{Table}
-use Rattle.rules.specs.Rules.{winch}
+use Rattle.rules.specs.Rules.{refusal, winch}
 use Rattle.images.specs.Image.{radio_image, length_of_image, table_as}
 use Rattle.images.specs.declared.Form.TheVariants.{Radio}
 use Rattle.images.proofs.Numbers.{Bytes, drop_bytes}
-use Rattle.image_sections.specs.Read.{any_rows, read_of}
-use Rattle.image_sections.specs.declared.Read.{Read}
-use Rattle.image_sections.specs.declared.Read.TheVariants as read
+use Rattle.image_sections.specs.Read.{Read, shape, any_rows, read_of}
+use Rattle.std.specs.Prelude.{Ok, Err}
+use Rattle.rules.specs.declared.Rule.TheVariants.{Trailing}
+use Rattle.rules.specs.declared.Refusal.{Refusal}
 use Rattle.image_reader.proofs.RoundTrip.{form_valid, read_front}
 use Rattle.image_reader.proofs.Accepted.{accepted}
 use Rattle.packs.specs.Pack.{radio_images, Every, Sendable}
-use Rattle.pack_images.specs.Images.{Found, tables, refused, with_table, place_in, behind, images_read, tables_of}
+use Rattle.pack_images.specs.Images.{Found, tables, with_table, refusal_in, behind, images_read, tables_of}
 
 -- What the image at the front of bytes says, whatever follows it.
 abbrev pub front : List ℕ → Read
@@ -30,7 +31,7 @@ next_of b at n = drop-drop n at b
 
 -- ---- the image at the front
 
-module _ (b : List ℕ) (bytes : Bytes b) (rows events start : ℕ) (e : front b ≡ read.Table rows events start) where
+module _ (b : List ℕ) (bytes : Bytes b) (rows events start : ℕ) (e : front b ≡ Ok (shape rows events start)) where
   pub front_sendable : Sendable (table_as Radio b rows events start)
   front_sendable = let v = form_valid false Radio any_rows b bytes rows events start e in (v.0, v.1)
 
@@ -40,42 +41,42 @@ module _ (b : List ℕ) (bytes : Bytes b) (rows events start : ℕ) (e : front b
 -- ---- the images
 
 module _ (whole n : ℕ) (b : List ℕ) where
-  pub images_next : (rows events start : ℕ) → front b ≡ read.Table rows events start
+  pub images_next : (rows events start : ℕ) → front b ≡ Ok (shape rows events start)
       → images_read whole (suc n) b ≡ with_table (table_as Radio b rows events start) (images_read whole n (drop (length_of_image Radio rows events) b))
   unfolding images_read
   images_next rows events start e = ap (λ (r : Read). behind whole b r (λ rows events. images_read whole n (drop (length_of_image Radio rows events) b))) e
 
-  pub images_refused : (number place : ℕ) → front b ≡ read.Refused number place → images_read whole (suc n) b ≡ refused number (place_in whole number place)
+  pub images_refused : (r : Refusal) → front b ≡ Err r → images_read whole (suc n) b ≡ Err (refusal_in whole r)
   unfolding images_read
-  images_refused number place e = ap (λ (r : Read). behind whole b r (λ rows events. images_read whole n (drop (length_of_image Radio rows events) b))) e
+  images_refused r e = ap (λ (r : Read). behind whole b r (λ rows events. images_read whole n (drop (length_of_image Radio rows events) b))) e
 
 module _ (whole : ℕ) (b : List ℕ) where
   pub images_end : length b ≡ 0 → images_read whole 0 b ≡ tables []
   unfolding images_read
   images_end h = rw (le-ltb 0 (length b) (omega arith))
 
-  pub images_more : 0 < length b → images_read whole 0 b ≡ refused 10 0
+  pub images_more : 0 < length b → images_read whole 0 b ≡ Err (refusal Trailing 0)
   unfolding images_read
   images_more h = rw (lt-ltb 0 (length b) h)
 
 -- ---- where tables are found
 
-pub no_tables : {A : Type 0} {number place : ℕ} {l : List Table} → refused number place ≡ tables l → A
+pub no_tables : {A : Type 0} {r : Refusal} {l : List Table} → Err r ≡ tables l → A
 no_tables e = let z : ◌≡◌ {A = ℕ} 0 1 = cc in absurd (omega arith)
 
 -- The first of them stands in front, and the others are found behind it.
 pub with_tables : (T : Table) (F : Found) (l : List Table) → with_table T F ≡ tables l → (F ≡ tables (tables_of F)) × (l ≡ T ∷ tables_of F)
-with_tables T (tables m) l e = (refl, cc)
-with_tables T (refused number place) l e = no_tables e
+with_tables T (Ok m) l e = (refl, cc)
+with_tables T (Err r) l e = no_tables e
 
 -- The image that begins with them.
 pub images_open : (whole n : ℕ) (b : List ℕ) (l : List Table) → images_read whole (suc n) b ≡ tables l
-    → (rows : ℕ) × (events : ℕ) × (start : ℕ) × (front b ≡ read.Table rows events start)
+    → (rows : ℕ) × (events : ℕ) × (start : ℕ) × (front b ≡ Ok (shape rows events start))
 images_open whole n b l e = pick (front b) refl
   where
-    pick : (r : Read) → front b ≡ r → (rows : ℕ) × (events : ℕ) × (start : ℕ) × (front b ≡ read.Table rows events start)
-    pick (read.Table rows events start) h = (rows, events, start, h)
-    pick (read.Refused number place) h = no_tables (sym (images_refused whole n b number place h) ∙ e)
+    pick : (r : Read) → front b ≡ r → (rows : ℕ) × (events : ℕ) × (start : ℕ) × (front b ≡ Ok (shape rows events start))
+    pick (Ok s) h = (s.rows, s.events, s.start, h)
+    pick (Err r) h = no_tables (sym (images_refused whole n b r h) ∙ e)
 
 -- All that are found can be sent, they are as many as were asked for, and their images are the bytes.
 pub record Holds (n : ℕ) (b : List ℕ) (l : List Table) : Type 0 where

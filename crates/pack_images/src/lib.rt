@@ -3,21 +3,22 @@
 ghost use Rattle.std.specs.Prelude.{◌≡◌, false};
 ghost use Rattle.rules.specs.Rules.{winch};
 ghost use Rattle.image_sections.specs.Read.{any_rows, read_of};
-ghost use Rattle.pack_images.specs.Images.{images_read};
-ghost use Rattle.pack_images.specs.Judge.{refusal_in, needed_by};
+ghost use Rattle.pack_images.specs.Images.{refusal_in, images_read};
+ghost use Rattle.pack_images.specs.Judge.{needed_by};
 
-use image_sections::Read;
+use image_sections::Shape;
 use images::Form;
+use rules::{Refusal, Rule};
 
-// How many cells and mark bytes the tables of a pack need, or the number and place of the first rule broken.
+// How many cells and mark bytes the tables of a pack need.
 #[derive(Clone, Copy)]
-pub enum Needs {
-    Room(usize, usize),
-    Refused(usize, usize),
+pub struct Needs {
+    pub cells: usize,
+    pub marks: usize,
 }
 
 // What the image at the front of bytes says, within the winch's limits.
-pub fn open_image(form: Form, image: &[u8]) -> Read
+pub fn open_image(form: Form, image: &[u8]) -> Result<Shape, Refusal>
     ensures { result ≡ read_of false form winch any_rows image.now }
 {
     let limits = rules::winch();
@@ -26,39 +27,34 @@ pub fn open_image(form: Form, image: &[u8]) -> Read
 }
 
 // The refusal of an image in a pack of so many bytes.
-fn refusal(whole: usize, read: Read) -> Needs
-    ensures { result ≡ refusal_in whole read }
+fn in_pack(whole: usize, refusal: Refusal) -> Refusal
+    ensures { result ≡ refusal_in whole refusal }
 {
-    let Read::Refused(number, place) = read else {
-        return Needs::Refused(0, 0);
-    };
-    if number == 8 {
-        return Needs::Refused(8, whole);
+    if refusal.rule.number() == 8 {
+        return refusal.rule.at(whole);
     }
-    Needs::Refused(number, place)
+    refusal
 }
 
 // Judges so many images one after another, in a pack of so many bytes, and then what is left over.
 #[tactic(auto, using(crate::proofs::Judging::judging_ends))]
-pub fn judge(whole: usize, count: usize, images: &[u8]) -> Needs
+pub fn judge(whole: usize, count: usize, images: &[u8]) -> Result<Needs, Refusal>
     ensures { result ≡ needed_by (images_read whole count images.now) }
 {
     let mut at = 0;
     let mut cells = 0;
     let mut marks = 0;
-    let mut i = 0;
-    while i < count {
-        let read = open_image(Form::Radio, &images[at..]);
-        let Read::Table(rows, events, _) = read else {
-            return refusal(whole, read);
+    for _ in 0..count {
+        let shape = match open_image(Form::Radio, &images[at..]) {
+            Ok(shape) => shape,
+            Err(refusal) => return Err(in_pack(whole, refusal)),
         };
-        at += images::image_length(Form::Radio, rows as u16, events as u16);
-        cells += rows * events;
-        marks += marks::mark_bytes(rows);
-        i += 1;
+        at += images::image_length(Form::Radio, shape.rows as u16, shape.events as u16);
+        cells += shape.rows * shape.events;
+        marks += marks::mark_bytes(shape.rows);
     }
     if at < images.len() {
-        return Needs::Refused(10, 0);
+        return Err(Rule::Trailing.at(0));
     }
-    Needs::Room(cells, marks)
+    Ok(Needs { cells, marks })
 }

@@ -10,21 +10,19 @@ use lib.ListN.{length, drop}
 use lib.Seq.{drop_at}
 use Rattle.automata.proofs.Tests.{clash}
 use Rattle.tables.specs.Table.{Table}
-use Rattle.rules.specs.Rules.{judged}
-use Rattle.rules.specs.declared.Verdict.{Verdict}
-use Rattle.rules.specs.declared.Verdict.TheVariants.{Fine, Refused}
+use Rattle.rules.specs.Rules.{Verdict, sound, judged}
+use Rattle.std.specs.Prelude.{Ok, Err}
 use Rattle.rules.proofs.Checks.{unbroken, passed, inside}
 use Rattle.images.specs.Image.{number, number_at, radio_image, length_of_image, table_as}
 use Rattle.images.specs.declared.Form.TheVariants.{Radio}
 use Rattle.images.proofs.Numbers.{Bytes, number-at, number-on, drop_bytes}
 use Rattle.images.proofs.Image.{image-length, image-table}
-use Rattle.image_numbers.specs.Numbers.{cut_rule}
-use Rattle.image_sections.specs.Read.{any_rows}
-use Rattle.image_sections.specs.declared.Read.TheVariants as read
+use Rattle.image_numbers.specs.Numbers.{cut_rule, checked}
+use Rattle.image_sections.specs.Read.{shape, any_rows}
 use Rattle.image_reader.proofs.RoundTrip.{front_read}
 use Rattle.packs.specs.Pack.{radio_images, pack, count_rule, Every, Sendable}
 use Rattle.packs.proofs.Images.{images_bytes}
-use Rattle.pack_images.specs.Images.{Found, tables, found_by, with_table, images_read}
+use Rattle.pack_images.specs.Images.{Found, tables, with_table, images_read}
 use Rattle.pack_images.proofs.Walk.{front, images_next, images_end, images_hold, no_tables}
 use Rattle.pack_reader.specs.Read.{pack_read}
 use Rattle.pack_reader.proofs.Reading.{pack-images}
@@ -37,7 +35,7 @@ images_read_lem whole [] h = images_end whole [] refl
 images_read_lem whole (T ∷ l) (t, h) =
     let r = radio_images l in
     let b = radio_image T ++ r in
-    let e : front b ≡ read.Table T.rows T.events T.start = front_read Radio T t.0 t.1 r b refl false (λ f. clash f refl) any_rows refl (images_bytes l h) in
+    let e : front b ≡ Ok (shape T.rows T.events T.start) = front_read Radio T t.0 t.1 r b refl false (λ f. clash f refl) any_rows refl (images_bytes l h) in
     let same : table_as Radio b T.rows T.events T.start ≡ T = image-table Radio T t.0 t.1 r b refl in
     let rest : drop (length_of_image Radio T.rows T.events) b ≡ r = drop_at (radio_image T) r _ (image-length Radio T t.0 t.1) in
     images_next whole (length l) b T.rows T.events T.start e
@@ -52,9 +50,9 @@ pack_read_lem l h some few =
 
 -- ---- accepted bytes
 
-found-fine : (v : Verdict) (f : Found) (l : List Table) → found_by v f ≡ tables l → (v ≡ Fine) × (f ≡ tables l)
-found-fine Fine f l e = (refl, e)
-found-fine (Refused number place) f l e = no_tables e
+found-fine : (v : Verdict) (f : Found) (l : List Table) → checked v f ≡ tables l → (v ≡ sound) × (f ≡ tables l)
+found-fine (Ok u) f l e = (refl, e)
+found-fine (Err r) f l e = no_tables e
 
 -- Read and written again, they are the same bytes; the tables read can be sent, and there are 1 to 16.
 pub read_pack : (b : List ℕ) → Bytes b → (l : List Table) → pack_read b ≡ tables l → (pack l ≡ b) × Every Sendable l × (1 ≤ length l) × (length l ≤ 16)

@@ -9,16 +9,17 @@ use lib.Dec.{ltb}
 use lib.ListN.{length, drop, length-drop}
 use Rattle.tables.specs.Table.{Table, mark_byte_count}
 use Rattle.tables.specs.Lists.{over}
-use Rattle.rules.specs.Rules.{rule, winch}
-use Rattle.rules.specs.declared.Verdict.{Verdict}
-use Rattle.rules.specs.declared.Verdict.TheVariants.{Fine, Refused}
+use Rattle.rules.specs.Rules.{Verdict, rule, winch}
+use Rattle.std.specs.Prelude.{Ok, Err}
+use Rattle.rules.specs.declared.Rule.TheVariants.{Room}
+use Rattle.rules.specs.declared.Refusal.{Refusal}
 use Rattle.images.specs.Image as Image
 use Rattle.images.specs.Image.{length_of_image, table_as}
 use Rattle.images.specs.declared.Form.TheVariants.{Radio}
 use Rattle.images.proofs.Numbers.{Bytes, drop_bytes}
-use Rattle.image_sections.specs.Read.{any_rows, answered}
-use Rattle.image_sections.specs.declared.Read.{Read}
-use Rattle.image_sections.specs.declared.Read.TheVariants as read
+use Rattle.image_sections.specs.Read.{Read, shape, any_rows}
+use Rattle.image_sections.specs.declared.Shape.{Shape}
+use Rattle.image_numbers.specs.Numbers.{checked}
 use Rattle.image_reader.specs.Read.{roomed, read_in_form}
 use Rattle.packs.specs.Pack.{list_of, cells_of, marks_of, Sendable}
 use Rattle.packs.proofs.Tables.{list_length, cells_length, marks_length}
@@ -57,13 +58,13 @@ taking_begin b bytes count list₀ cells₀ marks₀ h f =
     }
 
 -- An image that was read with room was read.
-pub roomed-table : (r : Read) (cells marks rows events start : ℕ) → roomed r cells marks ≡ read.Table rows events start → r ≡ read.Table rows events start
-roomed-table (read.Refused number place) cells marks rows events start e = e
-roomed-table (read.Table x y z) cells marks rows events start e = pick (rule 7 (ltb cells (x * y) || ltb marks (mark_byte_count x)) 0) e
+pub roomed-table : (r : Read) (cells marks : ℕ) (s : Shape) → roomed r cells marks ≡ Ok s → r ≡ Ok s
+roomed-table (Err x) cells marks s e = e
+roomed-table (Ok table) cells marks s e = pick (rule Room (ltb cells (table.rows * table.events) || ltb marks (mark_byte_count table.rows)) 0) e
   where
-    pick : (v : Verdict) → answered v (read.Table x y z) ≡ read.Table rows events start → read.Table x y z ≡ read.Table rows events start
-    pick Fine g = g
-    pick (Refused number place) g = let bad : ◌≡◌ {A = ℕ} 0 1 = cc in absurd (omega arith)
+    pick : (v : Verdict) → checked {A = Shape} v (Ok table) ≡ Ok s → ◌≡◌ {A = Read} (Ok table) (Ok s)
+    pick (Ok u) g = g
+    pick (Err x) g = let bad : ◌≡◌ {A = ℕ} 0 1 = cc in absurd (omega arith)
 
 module _ {b : List ℕ} {count : ℕ} {list₀ cells₀ marks₀ : List ℕ} {i at c m : ℕ} {list cells marks : List ℕ}
     (t : Taking b count list₀ cells₀ marks₀ i at c m list cells marks) (bytes : Bytes b) where
@@ -72,7 +73,7 @@ module _ {b : List ℕ} {count : ℕ} {list₀ cells₀ marks₀ : List ℕ} {i 
     one_less = omega arith
 
     -- The image at the place, and what is found behind it.
-    module _ (rows events start : ℕ) (e : front (drop at b) ≡ read.Table rows events start) where
+    module _ (rows events start : ℕ) (e : front (drop at b) ≡ Ok (shape rows events start)) where
       abbrev T : Table
       T = table_as Radio (drop at b) rows events start
 
@@ -121,7 +122,7 @@ module _ {b : List ℕ} {count : ℕ} {list₀ cells₀ marks₀ : List ℕ} {i 
       pub start_inside : start < rows
       start_inside = sent.0.start_inside
 
-      pub taken : read_in_form false Radio winch any_rows (drop at b) (length cells - c) (length marks - m) ≡ read.Table rows events start
+      pub taken : read_in_form false Radio winch any_rows (drop at b) (length cells - c) (length marks - m) ≡ Ok (shape rows events start)
       taken = ap (λ (r : Read). roomed r (length cells - c) (length marks - m)) e
           ∙ rw (le-ltb (length cells - c) (rows * events) (omega (arith, cells_room)), le-ltb (length marks - m) (mark_byte_count rows) (omega (arith, marks_room)))
 
@@ -138,10 +139,10 @@ module _ {b : List ℕ} {count : ℕ} {list₀ cells₀ marks₀ : List ℕ} {i 
       }
 
     -- Since all was judged, no image is refused.
-    pub taking-never : {A : Type 0} (number place : ℕ) → read_in_form false Radio winch any_rows (drop at b) (length cells - c) (length marks - m) ≡ read.Refused number place → A
-    taking-never number place g =
+    pub taking-never : {A : Type 0} (r : Refusal) → read_in_form false Radio winch any_rows (drop at b) (length cells - c) (length marks - m) ≡ Err r → A
+    taking-never r g =
         let (rows, events, start, e) = images_open (length b) (count - suc i) (drop at b) (tables_of (left b (count - i) at)) (sym (ap (λ (n : ℕ). left b n at) one_less) ∙ t.found) in
-        let bad : read.Table rows events start ≡ read.Refused number place = sym (taken rows events start e) ∙ g in
+        let bad : Ok (shape rows events start) ≡ Err r = sym (taken rows events start e) ∙ g in
         let z : ◌≡◌ {A = ℕ} 0 1 = cc in absurd (omega arith)
 
   -- All were taken.

@@ -1,8 +1,7 @@
 -- The reader as the code goes: once the images are judged, it takes them.
-use Rattle.std.specs.Prelude.{◌≡◌, List, ℕ, ◌*◌, ◌≤◌, length}
+use Rattle.std.specs.Prelude.{◌≡◌, List, ℕ, ◌*◌, ◌≤◌, length, Ok, Err}
 use Rattle.tables.specs.Lists.{over}
-use Rattle.image_sections.specs.declared.Read.{Read}
-use Rattle.image_sections.specs.declared.Read.TheVariants as read
+use Rattle.image_sections.specs.Read.{Read}
 use Rattle.packs.specs.Pack.{list_of, cells_needed, marks_needed}
 use Rattle.pack_images.specs.Images.{Found, tables, tables_of}
 
@@ -15,5 +14,5 @@ pub record Fitting (F : Found) (list cells marks : ℕ) : Type 0 where
 
 -- What an image that was read leaves in a lent buffer from a place on: a part that its rows and events tell.
 abbrev pub part_from : Read → (ℕ → ℕ → List ℕ) → List ℕ → ℕ → List ℕ
-part_from (read.Table rows events start) part d at = over d at (part rows events)
-part_from (read.Refused number place) part d at = d
+part_from (Ok table) part d at = over d at (part table.rows table.events)
+part_from (Err r) part d at = d

@@ -12,10 +12,9 @@ ghost use Rattle.pack_images.specs.Images.{tables_of, images_read};
 ghost use Rattle.pack_reader.specs.Read.{unpacked, answer_of, left_in};
 ghost use Rattle.pack_reader.specs.Walk.{part_from, Fitting};
 
-use image_sections::Read;
+use image_sections::Shape;
 use images::Form;
-use pack_images::Needs;
-use packs::Unpacked;
+use rules::{Refusal, Rule};
 
 // Puts rows, events and start of a table into the list, from a place on.
 fn put_entry(list: &mut [u16], at: usize, rows: usize, events: usize, start: usize)
@@ -35,7 +34,7 @@ fn take_image(
     c: usize,
     marks: &mut [u8],
     m: usize,
-) -> Read
+) -> Result<Shape, Refusal>
     requires { (at ≤ length pack.now) × (c ≤ length cells.old) × (m ≤ length marks.old) }
     ensures { let b = drop at pack.now in let given = cells.old in let bytes = marks.old in
         (result ≡ read_in_form false Radio winch any_rows b (length given - c) (length bytes - m))
@@ -63,24 +62,27 @@ fn take_images(pack: &[u8], count: usize, list: &mut [u16], cells: &mut [u16], m
     let mut at = 2;
     let mut c = 0;
     let mut m = 0;
-    let mut i = 0;
-    while i < count {
+    for i in 0..count {
         let read = take_image(pack, at, cells, c, marks, m);
-        let Read::Table(rows, events, start) = read else {
+        let Ok(table) = read else {
             // Never: all was judged before.
             return;
         };
-        put_entry(list, 3 * i, rows, events, start);
-        at += images::image_length(Form::Radio, rows as u16, events as u16);
-        c += rows * events;
-        m += marks::mark_bytes(rows);
-        i += 1;
+        put_entry(list, 3 * i, table.rows, table.events, table.start);
+        at += images::image_length(Form::Radio, table.rows as u16, table.events as u16);
+        c += table.rows * table.events;
+        m += marks::mark_bytes(table.rows);
     }
 }
 
 // Reads a pack, and answers how many tables it has. Rows, events and start of each are put into the list, three entries a table; cells and mark bytes hold
 // the tables one after another. Nothing is written before all is judged.
-pub fn read_pack(pack: &[u8], list: &mut [u16], cells: &mut [u16], marks: &mut [u8]) -> Unpacked
+pub fn read_pack(
+    pack: &[u8],
+    list: &mut [u16],
+    cells: &mut [u16],
+    marks: &mut [u8],
+) -> Result<usize, Refusal>
     ensures { let entries = list.old in let given = cells.old in let bytes = marks.old in
         let found = unpacked pack.now (length entries) (length given) (length bytes) in
         (result ≡ answer_of found)
@@ -89,27 +91,22 @@ pub fn read_pack(pack: &[u8], list: &mut [u16], cells: &mut [u16], marks: &mut [
         × (marks.new ≡ left_in found marks_of bytes) }
 {
     let head = image_numbers::number(pack, 0);
-    let image_numbers::Section::Got(count, _) = head else {
-        return Unpacked::Refused(8, pack.len());
+    let Ok((count, _)) = head else {
+        return Err(Rule::Short.at(pack.len()));
     };
     if rules::beyond(16, count) {
-        return Unpacked::Refused(15, 0);
+        return Err(Rule::Pack.at(0));
     }
-    let needs = pack_images::judge(pack.len(), count, &pack[2..]);
-    match needs {
-        Needs::Refused(number, place) => Unpacked::Refused(number, place),
-        Needs::Room(needed, bytes) => {
-            if list.len() < 3 * count {
-                return Unpacked::Refused(7, 0);
-            }
-            if cells.len() < needed {
-                return Unpacked::Refused(7, 0);
-            }
-            if marks.len() < bytes {
-                return Unpacked::Refused(7, 0);
-            }
-            take_images(pack, count, list, cells, marks);
-            Unpacked::Tables(count)
-        }
+    let needs = pack_images::judge(pack.len(), count, &pack[2..])?;
+    if list.len() < 3 * count {
+        return Err(Rule::Room.at(0));
     }
+    if cells.len() < needs.cells {
+        return Err(Rule::Room.at(0));
+    }
+    if marks.len() < needs.marks {
+        return Err(Rule::Room.at(0));
+    }
+    take_images(pack, count, list, cells, marks);
+    Ok(count)
 }

@@ -6,9 +6,7 @@ use Prim.Native.Nat.{ℕ, ◌/◌, ◌%◌, ◌≤◌}
 use borrow.Author.Tests.{eqb-true, eq-eqb, not-false, ltb-false}
 use lib.Dec.{eqb}
 use lib.ListN.{length}
-use Rattle.rules.specs.Rules.{and_then, judged, room_rule}
-use Rattle.rules.specs.declared.Verdict.{Verdict}
-use Rattle.rules.specs.declared.Verdict.TheVariants.{Fine}
+use Rattle.rules.specs.Rules.{Verdict, sound, and_then, judged, room_rule}
 use Rattle.rules.proofs.Checks.{unbroken, neither, inside}
 use Rattle.rules.proofs.First.{room_kept, both-fine}
 use Rattle.rules.proofs.Judged.{judged-append}
@@ -17,13 +15,13 @@ use Rattle.pack_rules.specs.Checks.{size_checks, together_rule, tables_checks, p
 
 module _ (list cells marks : List ℕ) where
   -- 3 is kept just if the three lengths are right.
-  together_fine : together_rule list cells marks ≡ Fine → (length list % 3 ≡ 0) × (length cells ≡ cells_needed list) × (length marks ≡ marks_needed list)
+  together_fine : together_rule list cells marks ≡ sound → (length list % 3 ≡ 0) × (length cells ≡ cells_needed list) × (length marks ≡ marks_needed list)
   together_fine e =
       let t = neither (not (eqb (length list % 3) 0)) (not (eqb (length cells) (cells_needed list)) || not (eqb (length marks) (marks_needed list))) (unbroken _ _ _ e) in
       let u = neither (not (eqb (length cells) (cells_needed list))) (not (eqb (length marks) (marks_needed list))) t.1 in
       (eqb-true _ _ (not-false _ t.0), eqb-true _ _ (not-false _ u.0), eqb-true _ _ (not-false _ u.1))
 
-  together_kept : length list % 3 ≡ 0 → length cells ≡ cells_needed list → length marks ≡ marks_needed list → together_rule list cells marks ≡ Fine
+  together_kept : length list % 3 ≡ 0 → length cells ≡ cells_needed list → length marks ≡ marks_needed list → together_rule list cells marks ≡ sound
   together_kept h hc hm = simp (eq-eqb _ _ h, eq-eqb _ _ hc, eq-eqb _ _ hm)
 
   module _ (room : ℕ) where
@@ -49,15 +47,15 @@ module _ (list cells marks : List ℕ) where
 pub record Accepted (list cells marks : List ℕ) (room : ℕ) : Type 0 where
   pub some : 1 ≤ length list / 3
   pub few : length list / 3 ≤ 16
-  pub sizes : judged (size_checks list) ≡ Fine
+  pub sizes : judged (size_checks list) ≡ sound
   pub threes : length list % 3 ≡ 0
   pub all_cells : length cells ≡ cells_needed list
   pub all_marks : length marks ≡ marks_needed list
-  pub tables : judged (tables_checks (tables_in list cells marks)) ≡ Fine
+  pub tables : judged (tables_checks (tables_in list cells marks)) ≡ sound
   pub ample : pack_length list ≤ room
 
 module _ (list cells marks : List ℕ) (room : ℕ) where
-  pub fine_accepted : judged (pack_checks list cells marks room) ≡ Fine → Accepted list cells marks room
+  pub fine_accepted : judged (pack_checks list cells marks room) ≡ sound → Accepted list cells marks room
   fine_accepted e =
       let p = both-fine _ _ (sym (pack-judged list cells marks room) ∙ e) in
       let q = both-fine (count_rule (length list / 3)) (judged (size_checks list)) p.0 in
@@ -73,10 +71,10 @@ module _ (list cells marks : List ℕ) (room : ℕ) where
         all_cells = t.1;
         all_marks = t.2;
         tables = u.0;
-        ample = ltb-false _ _ (unbroken _ _ _ (both-fine (room_rule (pack_length list) room) Fine u.1).0);
+        ample = ltb-false _ _ (unbroken _ _ _ (both-fine (room_rule (pack_length list) room) sound u.1).0);
       }
 
-  pub accepted_fine : Accepted list cells marks room → judged (pack_checks list cells marks room) ≡ Fine
+  pub accepted_fine : Accepted list cells marks room → judged (pack_checks list cells marks room) ≡ sound
   accepted_fine a =
       pack-judged list cells marks room
       ∙ simp ((inside 16 (length list / 3)).1 (a.some, a.few), a.sizes)

@@ -7,9 +7,7 @@ use borrow.Author.Tests.{eq-eqb}
 use lib.ListN.{length, take, drop, length-drop}
 use Rattle.tables.specs.Table.{Table, mark_byte_count}
 use Rattle.tables.proofs.Over.{part_length}
-use Rattle.rules.specs.Rules.{and_then, judged, row_rule, content_checks, table_of}
-use Rattle.rules.specs.declared.Verdict.{Verdict}
-use Rattle.rules.specs.declared.Verdict.TheVariants.{Fine}
+use Rattle.rules.specs.Rules.{Verdict, sound, and_then, judged, row_rule, content_checks, table_of}
 use Rattle.rules.proofs.Checks.{inside}
 use Rattle.rules.proofs.First.{both-fine, fine_valid, valid_then}
 use Rattle.rules.proofs.Judged.{judged-append}
@@ -35,15 +33,15 @@ module _ (T : Table) where
       ∙ ap (λ (v : Verdict). and_then v (judged (tables_checks l))) (sym (image-judged s t))
 
   -- A table can be sent just if the image writer finds nothing.
-  image_sendable : Bytes T.marks → judged (image_checks Radio T) ≡ Fine → Sendable T
+  image_sendable : Bytes T.marks → judged (image_checks Radio T) ≡ sound → Sendable T
   image_sendable bytes e = (fine_valid T (form_checks Radio T.events T.cells) e bytes, (image-fine Radio T e).1)
 
-  pub sendable_image : Sendable T → judged (image_checks Radio T) ≡ Fine
+  pub sendable_image : Sendable T → judged (image_checks Radio T) ≡ sound
   sendable_image (v, f) = valid_then T v (form_checks Radio T.events T.cells) ∙ fits_fine T.events T.cells Radio f
 
 -- Tables of which no check is broken can be sent.
-pub fine_sendable : (l cells marks : List ℕ) → judged (size_checks l) ≡ Fine → length cells ≡ cells_needed l → length marks ≡ marks_needed l
-    → judged (tables_checks (tables_in l cells marks)) ≡ Fine → Bytes marks → Every Sendable (tables_in l cells marks)
+pub fine_sendable : (l cells marks : List ℕ) → judged (size_checks l) ≡ sound → length cells ≡ cells_needed l → length marks ≡ marks_needed l
+    → judged (tables_checks (tables_in l cells marks)) ≡ sound → Bytes marks → Every Sendable (tables_in l cells marks)
 unfolding size_checks tables_in total
 fine_sendable (x ∷ y ∷ z ∷ l) cells marks s hc hm e bytes =
     let p = fine_sized x y (size_checks l) s in
@@ -61,12 +59,12 @@ sendable_sized : (T : Table) → Sendable T → Sized T.rows T.events
 sendable_sized T (v, f) = ((inside 1024 T.rows).1 (v.some_row, v.rows_fit), (inside 32 T.events).1 (v.some_event, v.events_fit))
 
 -- Of tables that can be sent no check is broken.
-pub sendable_sizes : (l : List Table) → Every Sendable l → judged (size_checks (list_of l)) ≡ Fine
+pub sendable_sizes : (l : List Table) → Every Sendable l → judged (size_checks (list_of l)) ≡ sound
 unfolding size_checks list_of
 sendable_sizes [] h = refl
 sendable_sizes (T ∷ l) (t, h) = sized_fine T.rows T.events (size_checks (list_of l)) (sendable_sized T t) ∙ sendable_sizes l h
 
-pub sendable_tables : (l : List Table) → Every Sendable l → judged (tables_checks l) ≡ Fine
+pub sendable_tables : (l : List Table) → Every Sendable l → judged (tables_checks l) ≡ sound
 unfolding tables_checks
 sendable_tables [] h = refl
 sendable_tables (T ∷ l) (t, h) =

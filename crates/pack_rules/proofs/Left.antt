@@ -8,9 +8,9 @@ use lib.Seq.{drop-drop}
 use Rattle.tables.specs.Table.{Table, mark_byte_count}
 use Rattle.tables.specs.Lists.{over}
 use Rattle.tables.proofs.Over.{part_length, over_none}
-use Rattle.rules.specs.Rules.{and_then, judged, table_of}
-use Rattle.rules.specs.declared.Verdict.{Verdict}
-use Rattle.rules.specs.declared.Verdict.TheVariants.{Fine, Refused}
+use Rattle.rules.specs.Rules.{Verdict, sound, and_then, judged, table_of}
+use Rattle.std.specs.Prelude.{Err}
+use Rattle.rules.specs.declared.Refusal.{Refusal}
 use Rattle.images.specs.declared.Form.TheVariants.{Radio}
 use Rattle.image_rules.specs.Checks.{image_checks}
 use Rattle.packs.specs.Pack.{tables_in, cells_needed, marks_needed, radio_images}
@@ -45,7 +45,7 @@ module _ {list cells marks : List ℕ} {at cell mark : ℕ} (l : Left list cells
   none_left : tables_left list cells marks at cell mark ≡ []
   none_left = tables-none list at h l.begun (drop cell cells) (drop mark marks)
 
-  pub none-judged : judged (tables_checks (tables_left list cells marks at cell mark)) ≡ Fine
+  pub none-judged : judged (tables_checks (tables_left list cells marks at cell mark)) ≡ sound
   unfolding tables_checks
   none-judged = ap (λ (m : List Table). judged (tables_checks m)) none_left
 
@@ -81,11 +81,11 @@ module _ {list cells marks : List ℕ} {at cell mark : ℕ} (l : Left list cells
   here_laid = rw here record { all_cells = part_length cells cell _ (rw read at cells_fit); all_marks = part_length marks mark _ (rw read at marks_fit) }
 
   -- With 1 and 2 kept, the image writer's checks of the first table are the next to judge.
-  module _ (s : judged (size_checks (drop at list)) ≡ Fine) where
-    sizes : Sized t.rows t.events × (judged (size_checks (drop (at + 3) list)) ≡ Fine)
+  module _ (s : judged (size_checks (drop at list)) ≡ sound) where
+    sizes : Sized t.rows t.events × (judged (size_checks (drop (at + 3) list)) ≡ sound)
     sizes = rw read (fine_sized (get_or list at 0) (get_or list (at + 1) 0) (size_checks (drop (at + 3) list)) (sym (ap judged (sizes_next list at h)) ∙ s))
 
-    pub sizes-behind : judged (size_checks (drop (at + 3) list)) ≡ Fine
+    pub sizes-behind : judged (size_checks (drop (at + 3) list)) ≡ sound
     sizes-behind = sizes.1
 
     first-judged : judged (tables_checks (tables_left list cells marks at cell mark))
@@ -93,8 +93,8 @@ module _ {list cells marks : List ℕ} {at cell mark : ℕ} (l : Left list cells
     first-judged = ap (λ (m : List Table). judged (tables_checks m)) here_first ∙ tables-judged _ sizes.0 here_laid _
 
     module _ (v : Verdict) (e : v ≡ judged (image_checks Radio (table_here cells marks cell mark t))) where
-      pub here-refused : (number place : ℕ) → v ≡ Refused number place → Refused number place ≡ judged (tables_checks (tables_left list cells marks at cell mark))
-      here-refused number place r = sym (first-judged ∙ rw (sym e ∙ r))
+      pub here-refused : (r : Refusal) → v ≡ Err r → Err r ≡ judged (tables_checks (tables_left list cells marks at cell mark))
+      here-refused r g = sym (first-judged ∙ rw (sym e ∙ g))
 
-      pub here-fine : v ≡ Fine → judged (tables_checks (tables_left list cells marks (at + 3) (cell + t.cells) (mark + t.marks))) ≡ judged (tables_checks (tables_left list cells marks at cell mark))
+      pub here-fine : v ≡ sound → judged (tables_checks (tables_left list cells marks (at + 3) (cell + t.cells) (mark + t.marks))) ≡ judged (tables_checks (tables_left list cells marks at cell mark))
       here-fine r = sym (first-judged ∙ rw (sym e ∙ r))

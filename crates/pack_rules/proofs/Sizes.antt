@@ -7,10 +7,8 @@ use native.Mathlib.Nat.{add-zero}
 use native.Mathlib.Omega.{arith}
 use lib.ListN.{length, get_or, drop, length-drop}
 use lib.Seq.{get_or-drop, drop-drop}
-use Rattle.rules.specs.Rules.{judged, winch, outside, rows_rule, events_rule}
+use Rattle.rules.specs.Rules.{Verdict, sound, judged, winch, outside, rows_rule, events_rule}
 use Rattle.rules.specs.declared.Limits.{Limits}
-use Rattle.rules.specs.declared.Verdict.{Verdict}
-use Rattle.rules.specs.declared.Verdict.TheVariants.{Fine}
 use Rattle.rules.proofs.Checks.{unbroken, passed, passed-behind}
 use Rattle.pack_rules.specs.Checks.{size_checks}
 use Rattle.pack_rules.specs.Steps.{entry_at}
@@ -53,7 +51,7 @@ module _ (rows events : ℕ) (l : List Verdict) where
   abbrev checks : List Verdict
   checks = rows_rule winch rows ∷ events_rule winch events ∷ l
 
-  pub fine_sized : judged checks ≡ Fine → Sized rows events × (judged l ≡ Fine)
+  pub fine_sized : judged checks ≡ sound → Sized rows events × (judged l ≡ sound)
   fine_sized e = ((unbroken _ _ _ (passed checks e 0), unbroken _ _ _ (passed checks e 1)), passed-behind 2 checks e)
 
   pub sized_fine : Sized rows events → judged checks ≡ judged l

@@ -7,12 +7,10 @@ use lib.ListN.{length, get_or, take}
 use Rattle.tables.specs.Table.{Table}
 use Rattle.tables.specs.Lists.{over}
 use Rattle.tables.proofs.Over.{take-over}
-use Rattle.rules.specs.Rules.{judged, left_by}
-use Rattle.rules.specs.declared.Verdict.{Verdict}
-use Rattle.rules.specs.declared.Verdict.TheVariants.{Fine, Refused}
+use Rattle.rules.specs.Rules.{Verdict, sound, judged, left_by}
+use Rattle.std.specs.Prelude.{Ok, Err}
 use Rattle.images.specs.Image.{length_of_image}
 use Rattle.images.specs.declared.Form.TheVariants.{Radio}
-use Rattle.image_rules.specs.declared.Written.TheVariants as write
 use Rattle.packs.specs.Pack.{tables_in, list_of, cells_of, marks_of, total, pack, pack_length, Every, Sendable}
 use Rattle.packs.proofs.Tables.{list_length, cells_length, marks_length, tables_back, list_back, cells_back, marks_back, tables-count}
 use Rattle.packs.proofs.Images.{sendable_laid, images_length}
@@ -32,12 +30,12 @@ pub record Packs (Ts : List Table) (bytes list cells marks : List ℕ) : Type 0 
   pub all_marks : marks_of Ts ≡ marks
 
 module _ (list cells marks : List ℕ) (bytes : (i : ℕ) → get_or marks i 0 < 256) (out : List ℕ) (n : ℕ) where
-  fine : (v : Verdict) → packed_by v list ≡ write.Length n → (v ≡ Fine) × (n ≡ pack_length list)
-  fine Fine e = (refl, cc)
-  fine (Refused number place) e = let z : ◌≡◌ {A = ℕ} 0 1 = cc in absurd (omega arith)
+  fine : (v : Verdict) → packed_by v list ≡ Ok n → (v ≡ sound) × (n ≡ pack_length list)
+  fine (Ok u) e = (refl, cc)
+  fine (Err r) e = let z : ◌≡◌ {A = ℕ} 0 1 = cc in absurd (omega arith)
 
   -- A written pack, as many bytes as the writer answers, is that of the tables which were passed to it, and they can be sent.
-  pub written-pack : packed list cells marks (length out) ≡ write.Length n → Packs (tables_in list cells marks) (take n (pack_in list cells marks out)) list cells marks
+  pub written-pack : packed list cells marks (length out) ≡ Ok n → Packs (tables_in list cells marks) (take n (pack_in list cells marks out)) list cells marks
   unfolding packed pack_in
   written-pack e =
       let Ts = tables_in list cells marks in
@@ -63,7 +61,7 @@ module _ (Ts : List Table) (sendable : Every Sendable Ts) (some : 1 ≤ length T
   back : tables_in (list_of Ts) (cells_of Ts) (marks_of Ts) ≡ Ts
   back = tables_back Ts (sendable_laid Ts sendable)
 
-  accepted : judged (pack_checks (list_of Ts) (cells_of Ts) (marks_of Ts) room) ≡ Fine
+  accepted : judged (pack_checks (list_of Ts) (cells_of Ts) (marks_of Ts) room) ≡ sound
   accepted =
       let laid = sendable_laid Ts sendable in
       let size = list_length Ts in
@@ -79,7 +77,7 @@ module _ (Ts : List Table) (sendable : Every Sendable Ts) (some : 1 ≤ length T
       }
 
   -- Any 1 to 16 tables that can be sent are taken where there is room, and their pack is written from the front.
-  pub accepts_pack : (packed (list_of Ts) (cells_of Ts) (marks_of Ts) room ≡ write.Length (pack_length (list_of Ts)))
+  pub accepts_pack : (packed (list_of Ts) (cells_of Ts) (marks_of Ts) room ≡ Ok (pack_length (list_of Ts)))
       × ((out : List ℕ) → length out ≡ room → pack_in (list_of Ts) (cells_of Ts) (marks_of Ts) out ≡ over out 0 (pack Ts))
   unfolding packed pack_in
   accepts_pack = (

@@ -7,16 +7,14 @@ use lib.ListN.{length}
 use Rattle.tables.specs.Table.{Table}
 use Rattle.tables.specs.Lists.{over}
 use Rattle.tables.proofs.Over.{over-over, over_then, over-length, rest, with_rest, rest-length, rest_over}
-use Rattle.rules.specs.Rules.{judged, left_by}
-use Rattle.rules.specs.declared.Verdict.{Verdict}
-use Rattle.rules.specs.declared.Verdict.TheVariants.{Fine}
+use Rattle.rules.specs.Rules.{Verdict, sound, judged, left_by}
+use Rattle.std.specs.Prelude.{Ok, Err}
+use Rattle.rules.specs.declared.Refusal.{Refusal}
 use Rattle.images.specs.Image.{number, radio_image, length_of_image}
 use Rattle.images.specs.declared.Form.TheVariants.{Radio}
 use Rattle.images.proofs.Image.{image-length}
-use Rattle.image_rules.specs.Checks.{written_by}
+use Rattle.image_rules.specs.Checks.{Written, written_by}
 use Rattle.image_writer.specs.Write.{write_checks, written_as, image_by, image_in_as}
-use Rattle.image_rules.specs.declared.Written.{Written}
-use Rattle.image_rules.specs.declared.Written.TheVariants as write
 use Rattle.image_writer.proofs.Writing.{write-fine}
 use Rattle.packs.specs.Pack.{tables_in, cells_needed, marks_needed, pack, pack_length, radio_images, Every, Sendable}
 use Rattle.packs.proofs.Threes.{total-next}
@@ -32,10 +30,10 @@ use Rattle.pack_writer.specs.Write.{packed_by, packed, pack_in}
 
 -- The image of a table that can be sent, where there is room for it.
 module _ (T : Table) (t : Sendable T) (b : List ℕ) (room : length_of_image Radio T.rows T.events ≤ length b) where
-  fine : judged (write_checks Radio T (length b)) ≡ Fine
+  fine : judged (write_checks Radio T (length b)) ≡ sound
   fine = write-fine Radio T (length b) (sendable_image T t) room
 
-  pub sent_length : written_as Radio T (length b) ≡ write.Length (length_of_image Radio T.rows T.events)
+  pub sent_length : written_as Radio T (length b) ≡ Ok (length_of_image Radio T.rows T.events)
   unfolding written_as
   sent_length = ap (λ (v : Verdict). written_by Radio v T) fine
 
@@ -78,13 +76,13 @@ module _ {list cells marks start out : List ℕ} {at cell mark to : ℕ} (g : Go
     roomy = omega (arith, within, rest-length out to)
 
     module _ (r : Written) (e : r ≡ written_as Radio (table_here cells marks cell mark t) (length (rest out to))) where
-      answer : r ≡ write.Length (length_of_image Radio t.rows t.events)
+      answer : r ≡ Ok (length_of_image Radio t.rows t.events)
       answer = e ∙ sent_length (table_here cells marks cell mark t) all-sendable.0 (rest out to) roomy
 
-      pub never-refused : {A : Type 0} (number place : ℕ) → r ≡ write.Refused number place → A
-      never-refused number place f = let z : ◌≡◌ {A = ℕ} 0 1 = cc answer in absurd (omega arith)
+      pub never-refused : {A : Type 0} (refusal : Refusal) → r ≡ Err refusal → A
+      never-refused refusal f = let z : ◌≡◌ {A = ℕ} 0 1 = cc answer in absurd (omega arith)
 
-      module _ (n : ℕ) (f : r ≡ write.Length n) where
+      module _ (n : ℕ) (f : r ≡ Ok n) where
         as_long : n ≡ length_of_image Radio t.rows t.events
         as_long = cc answer
 

@@ -1,17 +1,14 @@
 -- What the pack writer answers and leaves in the lent bytes.
-use Rattle.std.specs.Prelude.{List, ℕ, length}
-use Rattle.rules.specs.Rules.{judged, left_by}
-use Rattle.rules.specs.declared.Verdict.{Verdict}
-use Rattle.rules.specs.declared.Verdict.TheVariants.{Fine, Refused}
-use Rattle.image_rules.specs.declared.Written.{Written}
-use Rattle.image_rules.specs.declared.Written.TheVariants as write
+use Rattle.std.specs.Prelude.{List, ℕ, length, Ok, Err}
+use Rattle.rules.specs.Rules.{Verdict, judged, left_by}
+use Rattle.image_rules.specs.Checks.{Written}
 use Rattle.packs.specs.Pack.{tables_in, pack, pack_length}
 use Rattle.pack_rules.specs.Checks.{pack_checks}
 
--- The answer: the pack's length, or the number and place of the first rule broken.
+-- The answer: the pack's length, or the refusal.
 abbrev pub packed_by : Verdict → List ℕ → Written
-packed_by Fine list = write.Length (pack_length list)
-packed_by (Refused number place) list = write.Refused number place
+packed_by (Ok u) list = Ok (pack_length list)
+packed_by (Err r) list = Err r
 
 -- What the writer answers, with room for so many bytes.
 unfoldable pub packed : List ℕ → List ℕ → List ℕ → ℕ → Written

@@ -6,8 +6,7 @@ ghost use Rattle.images.specs.Image.{number};
 ghost use Rattle.packs.specs.Pack.{tables_in, cells_needed, marks_needed, pack_length, radio_images, Every, Sendable};
 ghost use Rattle.pack_writer.specs.Write.{packed, pack_in};
 
-use image_rules::Written;
-use rules::Verdict;
+use rules::{Refusal, Table};
 
 // Writes the count, which is at most 16: its high byte is 0.
 fn put_count(out: &mut [u8], count: usize)
@@ -26,26 +25,24 @@ fn put_images(list: &[u16], cells: &[u16], marks: &[u8], out: &mut [u8]) -> usiz
         (result ≡ pack_length l)
         × (out.new ≡ over out.old 2 (radio_images (tables_in l cells.now marks.now))) }
 {
-    let mut at = 0;
     let mut cell = 0;
     let mut mark = 0;
     let mut to = 2;
-    while 3 <= list.len() - at {
-        let table = pack_rules::entry_at(list, at);
-        let next_cell = cell + table.cells;
-        let next_mark = mark + table.marks;
-        let Written::Length(length) = image_writer::write_radio_image(
-            table.rows,
-            table.events,
-            table.start,
-            &cells[cell..next_cell],
-            &marks[mark..next_mark],
-            &mut out[to..],
-        ) else {
+    for i in 0..list.len() / 3 {
+        let entry = pack_rules::entry_at(list, 3 * i);
+        let next_cell = cell + entry.cells;
+        let next_mark = mark + entry.marks;
+        let table = Table {
+            rows: entry.rows,
+            events: entry.events,
+            start: entry.start,
+            cells: &cells[cell..next_cell],
+            marks: &marks[mark..next_mark],
+        };
+        let Ok(length) = image_writer::write_radio_image(table, &mut out[to..]) else {
             // Never: all was judged before.
             return to;
         };
-        at += 3;
         cell = next_cell;
         mark = next_mark;
         to += length;
@@ -55,16 +52,17 @@ fn put_images(list: &[u16], cells: &[u16], marks: &[u8], out: &mut [u8]) -> usiz
 
 // Writes the pack of tables, and answers its length. Rows, events and start of each table stand in the list, three entries a table; their cells and mark
 // bytes lie one after another. Nothing is written before all is judged.
-pub fn write_pack(list: &[u16], cells: &[u16], marks: &[u8], out: &mut [u8]) -> Written
+pub fn write_pack(
+    list: &[u16],
+    cells: &[u16],
+    marks: &[u8],
+    out: &mut [u8],
+) -> Result<usize, Refusal>
     ensures { let l = list.now in let c = cells.now in let m = marks.now in let b = out.old in
         (result ≡ packed l c m (length b))
         × (out.new ≡ pack_in l c m b) }
 {
-    match pack_rules::check_pack(list, cells, marks, out.len()) {
-        Verdict::Refused(number, place) => Written::Refused(number, place),
-        Verdict::Fine => {
-            put_count(out, list.len() / 3);
-            Written::Length(put_images(list, cells, marks, out))
-        }
-    }
+    pack_rules::check_pack(list, cells, marks, out.len())?;
+    put_count(out, list.len() / 3);
+    Ok(put_images(list, cells, marks, out))
 }

@@ -1,8 +1,8 @@
 -- "Packs sent by radio": tables one after another in lent buffers, and the bytes of a pack.
 use Rattle.std.specs.Prelude.{List, [], ◌∷◌, ◌++◌, ℕ, ◌+◌, ◌*◌, length, take, drop}
 use Rattle.tables.specs.Table.{Table, Valid, mark_byte_count}
-use Rattle.rules.specs.Rules.{rule, outside, table_of}
-use Rattle.rules.specs.declared.Verdict.{Verdict}
+use Rattle.rules.specs.Rules.{Verdict, rule, outside, table_of}
+use Rattle.rules.specs.declared.Rule.TheVariants.{Pack}
 use Rattle.images.specs.Image.{number, radio_image, length_of_image, Fits}
 use Rattle.images.specs.declared.Form.TheVariants.{Radio}
 
@@ -60,7 +60,7 @@ pack_length list = 2 + total (length_of_image Radio) list
 
 -- 15: the count is 0 or above 16.
 abbrev pub count_rule : ℕ → Verdict
-count_rule count = rule 15 (outside 16 count) 0
+count_rule count = rule Pack (outside 16 count) 0
 
 -- ---- what can be sent
 

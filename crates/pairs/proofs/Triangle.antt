@@ -14,10 +14,6 @@ unfolding triangle
 triangle_square zero = refl
 triangle_square (suc i) = rw (mul-suc (suc i) i, suc-mul i i) (omega (arith, triangle_square i))
 
--- As the code computes it.
-pub triangle-value : (i : ℕ) → (i * i - i) / 2 ≡ triangle i
-triangle-value i = omega (arith, triangle_square i)
-
 -- As document 01 says it.
 pub triangle_product : (i : ℕ) → i * (i - 1) / 2 ≡ triangle i
 unfolding triangle

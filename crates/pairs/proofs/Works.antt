@@ -5,14 +5,13 @@ use Prim.Native.Nat.{ℕ, ◌≤◌, ◌<◌}
 use lib.ListN.{get_or}
 use Rattle.automata.specs.Runs.{Sound}
 use Rattle.tables.specs.Table.{Table, Valid, machine, events_of}
-use Rattle.rules.specs.Rules.{judged, winch, table_checks}
-use Rattle.rules.specs.declared.Verdict.TheVariants.{Fine}
+use Rattle.rules.specs.Rules.{sound, judged, winch, table_checks}
 use Rattle.rules.proofs.Shape.{Shape}
 use Rattle.scratch.proofs.Works.{within_fine, within_valid, valid_within}
 use Rattle.scratch.proofs.Soundness.{within_shape, within_sound}
 use Rattle.pairs.specs.Pairs.{needed, workable}
 
-pub workable-fine : (T : Table) (room : ℕ) → workable T room ≡ true → (judged (table_checks winch T) ≡ Fine) × (needed T.rows ≤ room)
+pub workable-fine : (T : Table) (room : ℕ) → workable T room ≡ true → (judged (table_checks winch T) ≡ sound) × (needed T.rows ≤ room)
 workable-fine = within_fine needed
 
 pub workable_valid : (T : Table) (room : ℕ) → workable T room ≡ true → ((i : ℕ) → get_or T.marks i 0 < 256) → Valid T × (needed T.rows ≤ room)

@@ -9,10 +9,10 @@ use Rattle.printing.specs.Lines.{spaced, line}
 
 module _ (numbers : List ℕ) where
   -- One number more.
-  pub spaced-next : {out mid exit : List ℕ} {at m end : ℕ} (i : ℕ) {x : ℕ} → x ≡ get_or numbers i 0
-      → Puts out at (joined i (spaced numbers)) mid m → Puts mid m (text " " ++ decimal x) exit end → Puts out at (joined (i + 1) (spaced numbers)) exit end
+  pub spaced-next : {out mid exit : List ℕ} {at m end : ℕ} (i : ℕ)
+      → Puts out at (joined i (spaced numbers)) mid m → Puts mid m (text " " ++ decimal (get_or numbers i 0)) exit end → Puts out at (joined (i + 1) (spaced numbers)) exit end
   unfolding spaced
-  spaced-next i e p q = puts_next (spaced numbers) i p (puts_as (ap (λ (n : ℕ). text " " ++ decimal n) (sym e)) q)
+  spaced-next i p q = puts_next (spaced numbers) i p q
 
   -- The word, all numbers, and the line's end.
   pub line-all : {out worded numbered exit word : List ℕ} {at m n end : ℕ} (i : ℕ) → i ≡ length numbers

@@ -22,18 +22,10 @@ pub fn put_line(out: &mut [u8], at: usize, word: &[u8], numbers: &[usize]) -> us
     ensures { Puts out.old at (line word.now numbers.now) out.new result }
 {
     let mut next = put_text(out, at, word);
-    let mut i = 0;
-    while i < numbers.len() {
-        next = put_spaced(out, next, numbers[i]);
-        i += 1;
+    for number in numbers {
+        next = put_spaced(out, next, *number);
     }
     put_byte(out, next, b'\n')
-}
-
-fn wide(x: u16) -> usize
-    ensures { result ≡ x }
-{
-    x as usize
 }
 
 // The numbers of cells.
@@ -41,18 +33,10 @@ pub fn put_cells(out: &mut [u8], at: usize, cells: &[u16]) -> usize
     ensures { Puts out.old at (line (text "cells") cells.now) out.new result }
 {
     let mut next = put_text(out, at, b"cells");
-    let mut i = 0;
-    while i < cells.len() {
-        next = put_spaced(out, next, wide(cells[i]));
-        i += 1;
+    for cell in cells {
+        next = put_spaced(out, next, *cell as usize);
     }
     put_byte(out, next, b'\n')
-}
-
-fn least(a: usize, b: usize) -> usize
-    ensures { result ≡ min a b }
-{
-    if a < b { a } else { b }
 }
 
 // Writes the first n bytes of a buffer, as far as there are so many, and answers how many that are. A write that fails is an error.
@@ -60,7 +44,7 @@ pub fn print<W: Write>(to: &mut W, out: &[u8], n: usize) -> io::Result<usize>
     ensures count { IfOk result (λ k. k ≡ min n (length out.now)) }
     ensures written { OnOk result (Appends (W.contents to.old) (W.contents to.new) (take (min n (length out.now)) out.now)) }
 {
-    let count = least(n, out.len());
+    let count = n.min(out.len());
     to.write_all(&out[..count])?;
     Ok(count)
 }

@@ -1,11 +1,10 @@
 -- The rows that are left after a round that drops none are endless.
 use mathlib.Core.Path.{◌≡◌, refl, sym, ap, subst, ◌∙◌}
-use mathlib.Core.Bool.{Bool, true, false, true≢false}
+use mathlib.Core.Bool.{Bool}
 use mathlib.Core.List.{List}
 use mathlib.Core.Logic.{inr}
 use Prim.Native.Nat.{ℕ, zero, suc, ◌+◌, ◌*◌, ◌≤◌, ◌<◌}
 use native.Mathlib.Omega.{arith}
-use borrow.Author.Count.{below_more}
 use lib.ListN.{length, get_or, set}
 use lib.Seq.{get_or-set_other}
 use Rattle.automata.proofs.Runs.{Reach, ◌then◌, less}
@@ -16,29 +15,8 @@ use Rattle.depths.specs.Steps.{Known}
 use Rattle.depths.proofs.Moves.{grown-lead}
 use Rattle.quick_depths.specs.Leads.{left_at, seen_at, Space, Marked, Grows}
 use Rattle.quick_depths.specs.Rounds.{From, Spread, Fine, Dropped, Whole, SetRow, not_left, set_it, Round}
-use Rattle.quick_depths.proofs.Growth.{marked-none, marked_then, marked-set, kept_then, kept_lead, grows_none}
+use Rattle.quick_depths.proofs.Growth.{marked_then, kept_then, kept_lead}
 use Rattle.scratch.proofs.Cells.{cleared-length, cleared-before, cleared-behind, cleared_inside}
-
--- ---- rows that are dropped
-pub dropped_none : {n : ℕ} {s : List ℕ} {Rest : Type 0} → Rest → Dropped n s s false Rest
-dropped_none r = record { marked = marked-none; same = λ e. refl; rest = λ e. r }
-
-pub dropped_one : {n : ℕ} {s : List ℕ} {Rest : Type 0} (q : ℕ) → q < n → Dropped n s (set s (4 * n + q) 0) true Rest
-dropped_one {n} {s} q h = record { marked = marked-set s (4 * n + q) 0 (omega arith) (omega arith); same = λ e. absurd (true≢false e); rest = λ e. absurd (true≢false e) }
-
-module _ {n : ℕ} {s t u : List ℕ} (i : ℕ) {dropped hit : Bool} (d : Dropped n s t dropped ((q : ℕ) → q < i → Fine n s q)) (e : Dropped n t u hit (Fine n t i)) where
-  pub dropped_hit : Dropped n s u true ((q : ℕ) → q < i + 1 → Fine n s q)
-  dropped_hit = record { marked = marked_then d.marked e.marked; same = λ z. absurd (true≢false z); rest = λ z. absurd (true≢false z) }
-
-  pub dropped_miss : hit ≡ false → Dropped n s u dropped ((q : ℕ) → q < i + 1 → Fine n s q)
-  dropped_miss z = record {
-    marked = marked_then d.marked e.marked;
-    same = λ y. e.same z ∙ d.same y;
-    rest = λ y. below_more (Fine n s) i (d.rest y) (subst (λ (x : List ℕ). Fine n x i) (d.same y) (e.rest z));
-  }
-
-pub dropped_all : {n i : ℕ} {s t : List ℕ} {dropped : Bool} → n ≤ i → Dropped n s t dropped ((q : ℕ) → q < i → Fine n s q) → Dropped n s t dropped ((q : ℕ) → q < n → Fine n s q)
-dropped_all h d = record { marked = d.marked; same = d.same; rest = λ e q l. d.rest e q (omega arith) }
 
 -- ---- a round
 pub round_of : {mask n m : ℕ} {cells s t u v w : List ℕ} {r : Bool} → 12 * n ≤ length s → t ≡ cleared s (6 * n) (7 * n) → Spread mask n m cells t u → Spread mask n m cells u v
@@ -77,9 +55,6 @@ module _ {mask n m : ℕ} {cells s : List ℕ} (whole : Whole mask n m cells s) 
 pub record Setting (mask n m : ℕ) (cells s t : List ℕ) : Type 0 where
   pub grows : Grows mask n m cells s t
   pub same : (k : ℕ) → n ≤ k → get_or t k 0 ≡ get_or s k 0
-
-pub setting_none : {mask n m : ℕ} {cells s : List ℕ} → Setting mask n m cells s s
-setting_none {s} = record { grows = grows_none s; same = λ k h. refl }
 
 setting_set : {mask n m : ℕ} {cells s t : List ℕ} (q : ℕ) → Space n m cells s → Whole mask n m cells s → Setting mask n m cells s t → q < n → (left_at n t q ≡ 0 → ⊥) → Setting mask n m cells s (set t q 65535)
 setting_set {mask} {n} {m} {cells} {s} {t} q u whole g hq left = record {

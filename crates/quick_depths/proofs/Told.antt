@@ -1,5 +1,5 @@
 -- What the answer says of the table, and what is known of the leads that were found.
-use mathlib.Core.Path.{◌≡◌, refl, sym, subst, ◌∙◌}
+use mathlib.Core.Path.{◌≡◌, refl, sym, ap, subst, ◌∙◌}
 use mathlib.Core.Bool.{Bool, true, false, not, true≢false, false≢true}
 use mathlib.Core.List.{List}
 use mathlib.Core.Logic.{◌⊎◌, inl, inr}
@@ -35,16 +35,16 @@ module _ (mask : ℕ) (T : Table) (s : List ℕ) (valid : Bool) (e : valid ≡ f
   refused : workable_in few_cells T (length s) ≡ false → Promise mask T s s false
   refused w = (sym w, λ t. absurd (false≢true t), λ t. refl)
 
-  pub not_valid : not valid ≡ true → Promise mask T s s false
-  not_valid h = refused (not-fine T valid e h few_cells (length s))
+  pub not_valid : valid ≡ false → Promise mask T s s false
+  not_valid h = refused (not-fine T valid e (ap not h) few_cells (length s))
 
-  module _ (h : not valid ≡ false) where
+  module _ (h : valid ≡ true) where
     pub no_room : length s < few_cells T.rows → Promise mask T s s false
-    no_room l = refused (fine-room T valid e h few_cells (few_cells T.rows) (length s) refl ∙ lt-leb (few_cells T.rows) (length s) l)
+    no_room l = refused (fine-room T valid e (ap not h) few_cells (few_cells T.rows) (length s) refl ∙ lt-leb (few_cells T.rows) (length s) l)
 
     module _ (room : few_cells T.rows ≤ length s) where
       works : workable_in few_cells T (length s) ≡ true
-      works = fine-room T valid e h few_cells (few_cells T.rows) (length s) refl ∙ le-leb (few_cells T.rows) (length s) room
+      works = fine-room T valid e (ap not h) few_cells (few_cells T.rows) (length s) refl ∙ le-leb (few_cells T.rows) (length s) room
 
       pub ready : Space T.rows T.events T.cells s × (T.start < T.rows)
       ready =

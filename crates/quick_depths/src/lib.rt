@@ -11,33 +11,14 @@ fn target(n: usize, m: usize, cells: &[u16], q: usize, a: usize) -> usize
     requires { Given n m cells.now × (q < n) × (a < m) }
     ensures { (result ≡ get_or cells.now (q * m + a) 0) × (result < n) }
 {
-    rules::wide(cells[q * m + a])
-}
-
-// One more, if that fits a cell.
-fn up(x: u16) -> u16 {
-    if x == 65535 {
-        return x;
-    }
-    x + 1
-}
-
-// One less, but not below 0.
-fn down(x: u16) -> u16 {
-    if x == 0 {
-        return x;
-    }
-    x - 1
+    cells[q * m + a] as usize
 }
 
 // Whether an event from row p to row r has to be gone through before r: an idle loop has not.
 fn is_edge(mask: u32, p: usize, r: usize, a: usize) -> bool
     requires { a < 32 }
 {
-    if p != r {
-        return true;
-    }
-    weights::weight(mask, a as u16) == 1
+    p != r || weights::weight(mask, a as u16) == 1
 }
 
 // Counts the event as one that leads to row r.
@@ -46,7 +27,7 @@ fn tally(mask: u32, n: usize, scratch: &mut [u16], p: usize, r: usize, a: usize)
     ensures { Marked n scratch.old scratch.new }
 {
     if is_edge(mask, p, r, a) {
-        scratch[4 * n + r] = up(scratch[4 * n + r]);
+        scratch[4 * n + r] = scratch[4 * n + r].saturating_add(1);
     }
 }
 
@@ -66,10 +47,7 @@ fn meet(
 {
     let r = target(n, m, cells, p, a);
     tally(mask, n, scratch, p, r, a);
-    if scratch[r] != 0 {
-        return count;
-    }
-    if n <= count {
+    if scratch[r] != 0 || n <= count {
         return count;
     }
     scratch[r] = 1;
@@ -91,10 +69,8 @@ fn meet_row(
     ensures { Grows mask n m cells.now scratch.old scratch.new × (result ≤ n) }
 {
     let mut to = count;
-    let mut a = 0;
-    while a < m {
+    for a in 0..m {
         to = meet(mask, n, m, cells, scratch, p, a, to);
-        a += 1;
     }
     to
 }
@@ -112,11 +88,8 @@ fn meet_next(
     requires { Space n m cells.now scratch.old × (i < n) × (count ≤ n) }
     ensures { Grows mask n m cells.now scratch.old scratch.new × (result ≤ n) }
 {
-    let p = rules::wide(scratch[5 * n + i]);
-    if n <= p {
-        return count;
-    }
-    if scratch[p] == 0 {
+    let p = scratch[5 * n + i] as usize;
+    if n <= p || scratch[p] == 0 {
         return count;
     }
     meet_row(mask, n, m, cells, scratch, p, count)
@@ -129,6 +102,7 @@ fn reach(mask: u32, n: usize, m: usize, cells: &[u16], scratch: &mut [u16]) -> u
 {
     let mut count = 1;
     let mut i = 0;
+    // Not a range: more rows come to wait in the meantime.
     while i < count {
         count = meet_next(mask, n, m, cells, scratch, i, count);
         i += 1;
@@ -152,12 +126,9 @@ fn settle_edge(
     if !is_edge(mask, p, r, a) {
         return count;
     }
-    let left = down(scratch[4 * n + r]);
+    let left = scratch[4 * n + r].saturating_sub(1);
     scratch[4 * n + r] = left;
-    if left != 0 {
-        return count;
-    }
-    if n <= count {
+    if left != 0 || n <= count {
         return count;
     }
     scratch[5 * n + count] = r as u16;
@@ -197,10 +168,8 @@ fn pass_row(
     ensures { Grows mask n m cells.now scratch.old scratch.new × (result ≤ n) }
 {
     let mut to = count;
-    let mut a = 0;
-    while a < m {
+    for a in 0..m {
         to = pass(mask, n, m, cells, scratch, p, a, to);
-        a += 1;
     }
     to
 }
@@ -218,7 +187,7 @@ fn pass_next(
     requires { Space n m cells.now scratch.old × (i < n) × (count ≤ n) }
     ensures { Grows mask n m cells.now scratch.old scratch.new × (result ≤ n) }
 {
-    let p = rules::wide(scratch[5 * n + i]);
+    let p = scratch[5 * n + i] as usize;
     if n <= p {
         return count;
     }
@@ -239,6 +208,7 @@ fn pass_rows(
 {
     let mut count = first;
     let mut i = 0;
+    // Not a range: more rows come to wait in the meantime.
     while i < count {
         count = pass_next(mask, n, m, cells, scratch, i, count);
         i += 1;
@@ -255,17 +225,6 @@ fn begin(n: usize, start: usize, scratch: &mut [u16])
     scratch::clear(scratch, 4 * n, 8 * n);
     scratch[start] = 1;
     scratch[5 * n] = start as u16;
-}
-
-// 1 if no event leads to the start, so that it comes first; else 0.
-fn first(n: usize, start: usize, scratch: &[u16]) -> usize
-    requires { (n ≤ 1024) × (12 * n ≤ length scratch.now) × (start < n) }
-    ensures { result ≤ 1 }
-{
-    if scratch[4 * n + start] == 0 {
-        return 1;
-    }
-    0
 }
 
 // Marks a row as seen. If it was not, it waits in the second list; answers how many do.
@@ -321,10 +280,8 @@ fn see_row(
     ensures { Seen n (ByEvent mask m cells.now p w) scratch.old scratch.new × (result ≤ n) }
 {
     let mut to = count;
-    let mut a = 0;
-    while a < m {
+    for a in 0..m {
         to = see_event(mask, n, m, cells, scratch, p, w, a, to);
-        a += 1;
     }
     to
 }
@@ -354,10 +311,8 @@ fn see_all(mask: u32, n: usize, m: usize, cells: &[u16], scratch: &mut [u16]) ->
     ensures { Spread mask n m cells.now scratch.old scratch.new × (result ≤ n) }
 {
     let mut count = 0;
-    let mut q = 0;
-    while q < n {
+    for q in 0..n {
         count = see_left(mask, n, m, cells, scratch, q, count);
-        q += 1;
     }
     count
 }
@@ -375,11 +330,8 @@ fn see_next(
     requires { Space n m cells.now scratch.old × (i < n) × (count ≤ n) }
     ensures { Spread mask n m cells.now scratch.old scratch.new × (result ≤ n) }
 {
-    let p = rules::wide(scratch[7 * n + i]);
-    if n <= p {
-        return count;
-    }
-    if scratch[6 * n + p] == 0 {
+    let p = scratch[7 * n + i] as usize;
+    if n <= p || scratch[6 * n + p] == 0 {
         return count;
     }
     see_row(mask, n, m, cells, scratch, p, 0, count)
@@ -392,6 +344,7 @@ fn see_more(mask: u32, n: usize, m: usize, cells: &[u16], scratch: &mut [u16], f
 {
     let mut count = from;
     let mut i = 0;
+    // Not a range: more rows come to wait in the meantime.
     while i < count {
         count = see_next(mask, n, m, cells, scratch, i, count);
         i += 1;
@@ -403,16 +356,7 @@ fn is_fine(n: usize, scratch: &[u16], q: usize) -> bool
     requires { Wide n scratch.now × (q < n) }
     ensures { result ≡ true → Fine n scratch.now q }
 {
-    if scratch[4 * n + q] == 0 {
-        return true;
-    }
-    if scratch[6 * n + q] == 0 {
-        return false;
-    }
-    if scratch[q] == 0 {
-        return false;
-    }
-    true
+    scratch[4 * n + q] == 0 || scratch[6 * n + q] != 0 && scratch[q] != 0
 }
 
 // Otherwise it is dropped. Answers whether it was.
@@ -433,13 +377,8 @@ fn keep_seen(n: usize, scratch: &mut [u16]) -> bool
     ensures { Dropped n scratch.old scratch.new result ((q : ℕ) → q < n → Fine n scratch.old q) }
 {
     let mut dropped = false;
-    let mut q = 0;
-    while q < n {
-        let hit = keep_row(n, scratch, q);
-        q += 1;
-        if hit {
-            dropped = true;
-        }
+    for q in 0..n {
+        dropped |= keep_row(n, scratch, q);
     }
     dropped
 }
@@ -460,10 +399,9 @@ fn set_row(n: usize, scratch: &mut [u16], q: usize)
     requires { Wide n scratch.old × (q < n) }
     ensures { SetRow n q scratch.old scratch.new }
 {
-    if scratch[4 * n + q] == 0 {
-        return;
+    if scratch[4 * n + q] != 0 {
+        scratch[q] = u16::MAX;
     }
-    scratch[q] = 65535;
 }
 
 // The same for all rows.
@@ -471,58 +409,21 @@ fn set_endless(mask: u32, n: usize, m: usize, cells: &[u16], scratch: &mut [u16]
     requires { Space n m cells.now scratch.old × Whole mask n m cells.now scratch.old }
     ensures { Grows mask n m cells.now scratch.old scratch.new }
 {
-    let mut q = 0;
-    while q < n {
+    for q in 0..n {
         set_row(n, scratch, q);
-        q += 1;
     }
 }
 
-// A round, and what is left is endless if it dropped no row. Answers how many rounds may come yet.
-fn one_round(
-    mask: u32,
-    n: usize,
-    m: usize,
-    cells: &[u16],
-    scratch: &mut [u16],
-    left: usize,
-) -> usize
-    requires { Space n m cells.now scratch.old × (0 < left) }
-    ensures { Grows mask n m cells.now scratch.old scratch.new × (result < left) }
-{
-    if round(mask, n, m, cells, scratch) {
-        return left - 1;
-    }
-    set_endless(mask, n, m, cells, scratch);
-    0
-}
-
-// Rounds until one drops no row. Each of the others drops one.
+// Rounds until one drops no row, so that what is left is endless. Each of the others drops one.
 fn endless(mask: u32, n: usize, m: usize, cells: &[u16], scratch: &mut [u16])
     requires { Space n m cells.now scratch.old }
     ensures { Grows mask n m cells.now scratch.old scratch.new }
 {
-    let mut left = n + 1;
-    while left > 0 {
-        left = one_round(mask, n, m, cells, scratch, left);
-    }
-}
-
-// The same, unless all reached rows were gone through.
-fn endless_unless(
-    mask: u32,
-    n: usize,
-    m: usize,
-    cells: &[u16],
-    scratch: &mut [u16],
-    passed: usize,
-    reached: usize,
-)
-    requires { Space n m cells.now scratch.old }
-    ensures { Grows mask n m cells.now scratch.old scratch.new }
-{
-    if passed < reached {
-        endless(mask, n, m, cells, scratch);
+    for _ in 0..=n {
+        if !round(mask, n, m, cells, scratch) {
+            set_endless(mask, n, m, cells, scratch);
+            return;
+        }
     }
 }
 
@@ -533,9 +434,12 @@ fn search(mask: u32, n: usize, m: usize, start: usize, cells: &[u16], scratch: &
 {
     begin(n, start, scratch);
     let reached = reach(mask, n, m, cells, scratch);
-    let count = first(n, start, scratch);
+    // The start comes first if no event leads to it.
+    let count = usize::from(scratch[4 * n + start] == 0);
     let passed = pass_rows(mask, n, m, cells, scratch, count);
-    endless_unless(mask, n, m, cells, scratch, passed, reached);
+    if passed < reached {
+        endless(mask, n, m, cells, scratch);
+    }
     depths::settle(mask, n as u16, m as u16, cells, scratch);
     scratch::clear(scratch, 4 * n, 8 * n);
 }
@@ -556,10 +460,7 @@ pub fn depths(
         × (result ≡ true → Found mask T s t)
         × (result ≡ false → t ≡ s) }
 {
-    if !scratch::valid(rows, events, start, cells, marks) {
-        return false;
-    }
-    if scratch.len() < 12 * rows {
+    if !scratch::valid(rows, events, start, cells, marks) || scratch.len() < 12 * rows {
         return false;
     }
     search(mask, rows, events, start, cells, scratch);

@@ -1,20 +1,21 @@
 -- The classes of a level as the sweep goes on with them, whether leaders were joined or classes split.
-use mathlib.Core.Path.{◌≡◌, sym, ap, subst, ◌∙◌}
+use mathlib.Core.Path.{◌≡◌, ap, ◌∙◌}
 use mathlib.Core.List.{List}
 use mathlib.Core.Logic.{inr}
-use mathlib.Core.Bool.{Bool}
 use Prim.Native.Nat.{ℕ, ◌+◌, ◌-◌, ◌*◌, ◌≤◌, ◌<◌}
 use native.Mathlib.Omega.{arith}
+use native.Mathlib.Decide.{dec_le}
+use borrow.Author.Tests.{le-leb, lt-leb}
+use lib.Dec.{leb}
 use lib.ListN.{length, get_or}
+use Rattle.std.specs.Bool.{then_some}
+use Rattle.std.specs.Option.{IfSome}
 use Rattle.tables.specs.Table.{Table, weight_by, machine, events_of}
 use Rattle.levels.specs.Levels.{row_at}
 use Rattle.levels.specs.Sweep.{Settled}
 use Rattle.scratch.specs.Scratch.{cleared}
 use Rattle.splitting.specs.Places.{nxt_at, jump_at, Filled}
 use Rattle.splitting.proofs.Frames.{filled_clear}
-use Rattle.classes.specs.Values.{values_by, values_on, Sizes, Given}
-use Rattle.classes.specs.Steps as Classes
-use Rattle.classes.proofs.Moves.{settled-from}
 use Rattle.leaders.specs.Leaders.{Kept}
 use Rattle.quick_folding.specs.Parts.{value_at, Leading, Follows}
 
@@ -27,15 +28,12 @@ emptied {n} {s} few room e =
 pub emptied_kept : {n : ℕ} {s t : List ℕ} → Filled n (9 * n) (3 * n) (λ i. 0) s t → Kept n s t
 emptied_kept d = record { frame = d.frame; stamps = λ x h l. d.below x (omega arith) }
 
--- Where leaders could not be joined, splits go by what stood before.
-pub split_after : (top : Bool) (mask n m to : ℕ) (cells marks : List ℕ) {s s₁ t : List ℕ} → Given n (values_by top mask n m to cells marks s) cells s → Kept n s s₁
-    → (Given n (values_by top mask n m to cells marks s₁) cells s₁ → Classes.Settled n (values_by top mask n m to cells marks s₁) s₁ t)
-    → Classes.Settled n (values_by top mask n m to cells marks s) s t
-split_after top mask n m to cells marks {s} {s₁} {t} g k settle = settled-from k.frame (subst (λ (b : List ℕ). Classes.Settled n (values_on top mask n m to cells marks b) s₁ t) k.frame.before
-    (settle (subst (λ (b : List ℕ). Given n (values_on top mask n m to cells marks b) cells s₁) (sym k.frame.before) (record { sizes = sizes; within = g.within }))))
-  where
-    sizes : Sizes n m to cells s₁
-    sizes = record { few = g.sizes.few; room = omega (arith, g.sizes.room, k.frame.size); inside = g.sizes.inside; events = g.sizes.events; all_cells = g.sizes.all_cells }
+-- What is known of a number of lost leads, if that is told.
+pub if_known : (P : ℕ → Type 0) (r : ℕ) → (r ≤ 1024 → P r) → IfSome (then_some (leb r 1024) r) (λ x. (x ≤ 1024) × P x)
+if_known P r told = elim (dec_le r 1024) [
+  | yes h ↦ rw (le-leb r 1024 h) (h, told h)
+  | no h ↦ rw (lt-leb r 1024 (omega arith)) tt
+]
 
 -- f gives the leader of each place; where it is asked for, at new places and at the values of old rows, it stands in t₂.
 pub record Grouping (mask : ℕ) (T : Table) (k L i j u : ℕ) (s t₁ t₂ : List ℕ) (lost : ℕ) (f : ℕ → ℕ) : Type 0 where

@@ -1,5 +1,5 @@
 -- Values that become their leaders: of all rows, or only of those that a place led alone which leads no more.
-use mathlib.Core.Path.{◌≡◌, refl, sym, ap, subst, ◌∙◌}
+use mathlib.Core.Path.{◌≡◌, sym, ap, subst, ◌∙◌}
 use mathlib.Core.List.{List}
 use mathlib.Core.Logic.{◌⊎◌, inl, inr, ⊎_elim}
 use Prim.Native.Nat.{ℕ, ◌+◌, ◌*◌, ◌≤◌, ◌<◌}
@@ -9,9 +9,6 @@ use Rattle.scratch.proofs.Numbers.{eq_or_ne}
 use Rattle.splitting.specs.Places.{nxt_at, jump_at}
 use Rattle.quick_folding.specs.Parts.{value_at, list_at, stamp_at, Leading, Renewable, Relabelled, stayed, changed, Relabelling, Losing, Alone, Passed}
 use Rattle.quick_folding.proofs.Moves.{set2_size, set2_other, set2_first, set2_second}
-
-pub losing_none : {n level : ℕ} (s : List ℕ) → Losing n level 0 s s
-losing_none s = record { size = refl; below = λ k h. refl; between = λ k h l. refl; above = λ k h. refl; gone = λ q y h l. absurd (omega arith); any = λ q h. inl refl }
 
 module _ {n u level lost x : ℕ} {s t : List ℕ} (p : Renewable n u level lost s) (few : lost ≤ 1024) (alone : Alone n lost s) (h : x < lost) (d : Losing n level x s t) where
   -- The place that is next on the list, and its row.
@@ -45,9 +42,6 @@ module _ {n u level lost x : ℕ} {s t : List ℕ} (p : Renewable n u level lost
   -- Its value now: as it was, or the leader already.
   value_now : (value_at n t row ≡ z) ⊎ (value_at n t row ≡ nxt_at n s z)
   value_now = ⊎_elim (λ e. inl (e ∙ lead.own)) (λ e. inr (e.0 ∙ ap (nxt_at n s) lead.own)) (d.any row row_in)
-
-  pub read_ok : (z < n) × (row < n) × (value_at n t row < n)
-  read_ok = (place, row_in, ⊎_elim (λ e. omega (arith, place)) (λ e. omega (arith, p.lower few x h)) value_now)
 
   -- Its leader.
   next_is : nxt_at n t (value_at n t row) ≡ nxt_at n s z
@@ -131,6 +125,10 @@ passed-all d =
       any = λ q h. inr (d.here q h);
       noted = d.noted;
     }
+
+-- Where a place has lost its lead, there are places.
+pub some_below : {n u level lost : ℕ} {s : List ℕ} → Renewable n u level lost s → lost ≤ 1024 → (lost ≡ 0 → ⊥) → 0 < u
+some_below p few some = omega (arith, (p.losers few 0 (omega arith)).place)
 
 pub passed_lost : {n u level lost : ℕ} {s t : List ℕ} → Renewable n u level lost s → lost ≤ 1024 → Losing n level lost s t → Passed n u level s t
 passed_lost {n} {u} {level} {lost} {s} {t} p few d =

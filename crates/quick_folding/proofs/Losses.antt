@@ -52,35 +52,21 @@ module _ (n level : ℕ) (s : List ℕ) (c : ℕ) where
 
 -- Notes of earlier places change nothing.
 module _ {n u level c : ℕ} {f : ℕ → ℕ} {s t : List ℕ} (p : Noting n u level s) (d : Wrote (8 * n) c f s t) where
-  pub noting_still : Noting n u level t
-  noting_still = record {
-    few = p.few;
-    room = omega (arith, p.room, d.size);
-    low = p.low;
-    places = p.places;
-    rows = λ x h. omega (arith, p.rows x h, p.places, d.below (3 * n + x) (omega (arith, p.places)));
-  }
-
   pub loss-still : c < u → {r : ℕ} → r ≡ loss_at n level t c → r ≡ loss_at n level s c
   unfolding loss_at
   loss-still h e =
       let row : list_at n t c ≡ list_at n s c = d.below (3 * n + c) (omega (arith, p.places)) in
       e ∙ rw (d.above (8 * n + c) (omega arith), row, d.below (2 * n + list_at n s c) (omega (arith, p.rows c h)))
 
--- ---- the least distance of a row
-module _ (n : ℕ) (s : List ℕ) (q : ℕ) where
-  pub apart-unreached : lead_in s q ≡ 0 → 0 ≡ apart_at n s q
+-- ---- the least distance of a row that has a lead
+module _ (n : ℕ) (s : List ℕ) (q : ℕ) (r : lead_in s q ≡ 0 → ⊥) where
+  pub apart-folded : (list_at n s (label_at n s q) ≡ q → ⊥) → 0 ≡ apart_at n s q
   unfolding apart_at
-  apart-unreached e = sym (rw (eq-eqb (lead_in s q) 0 e) refl)
+  apart-folded ne = sym (rw (ne_eqb (lead_in s q) 0 r, ne_eqb (list_at n s (label_at n s q)) q ne) refl)
 
-  module _ (r : lead_in s q ≡ 0 → ⊥) where
-    pub apart-folded : (list_at n s (label_at n s q) ≡ q → ⊥) → 0 ≡ apart_at n s q
-    unfolding apart_at
-    apart-folded ne = sym (rw (ne_eqb (lead_in s q) 0 r, ne_eqb (list_at n s (label_at n s q)) q ne) refl)
-
-    pub apart-kept : list_at n s (label_at n s q) ≡ q → apart_at n s q ≡ far_cell (noted_at n s (label_at n s q))
-    unfolding apart_at
-    apart-kept e = rw (ne_eqb (lead_in s q) 0 r, eq-eqb (list_at n s (label_at n s q)) q e)
+  pub apart-kept : list_at n s (label_at n s q) ≡ q → apart_at n s q ≡ far_cell (noted_at n s (label_at n s q))
+  unfolding apart_at
+  apart-kept e = rw (ne_eqb (lead_in s q) 0 r, eq-eqb (list_at n s (label_at n s q)) q e)
 
 pub apart-still : {n count : ℕ} {f : ℕ → ℕ} {s t : List ℕ} → Labels n s → Valued n count f s t → (q : ℕ) → q < n → count ≤ n → apart_at n t q ≡ apart_at n s q
 unfolding apart_at

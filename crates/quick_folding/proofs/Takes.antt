@@ -245,14 +245,3 @@ module _ {n u more d count : ℕ} {s t : List ℕ} (p : Takable n u more s) (k :
   taken_miss {t₁} q at g is ne =
       let r = seat_is g in
       half_taken q at (⊎_elim (λ y. absurd (ne y.1)) (λ y. subst (Half count) (sym y.2) (half_stay y.0)) r.1) is r.0
-
-  -- What the stores ask.
-  pub taken_room : {t₁ : List ℕ} {at : ℕ} → Seated n u (u + d) count t t₁ at → (length t₁ ≡ length s) × (at ≤ n)
-  taken_room {t₁} {at} g =
-      let r = seat_is g in
-      let b = place_in in
-      let hi = count_high in
-      ⊎_elim
-      (λ y. (ap length y.2 ∙ set2_size t (7 * n + (u + d)) count (3 * n + count) (list_at n s (u + d)) ∙ k.size, omega (arith, y.1)))
-      (λ y. (ap length y.2 ∙ k.size, omega (arith, y.1)))
-      r.1

@@ -1,11 +1,11 @@
 -- From the leads to the order, and from the labels to the rows into which rows fold.
 use mathlib.Core.Path.{◌≡◌, sym, ap, subst, ◌∙◌}
-use mathlib.Core.Bool.{Bool, true, false, not, true≢false, false≢true}
+use mathlib.Core.Bool.{Bool, true, false, not, true≢false}
 use mathlib.Core.List.{List}
 use mathlib.Core.Logic.{⊎_elim}
 use Prim.Native.Nat.{ℕ, ◌+◌, ◌*◌, ◌≤◌, ◌<◌}
 use native.Mathlib.Omega.{arith}
-use borrow.Author.Tests.{eqb-false, not-true, not-false}
+use borrow.Author.Tests.{eqb-false}
 use lib.Dec.{eqb}
 use lib.ListN.{length, get_or}
 use lib.Seq.{get_or-take}
@@ -56,13 +56,7 @@ Answered T X s t r =
 
 -- What the search for the leads ensures.
 module _ (mask : ℕ) (T : Table) {s t₁ : List ℕ} {r : Bool} (e : r ≡ workable_in few_cells T (length s)) where
-  pub refused : {X : Type 0} → (r ≡ false → t₁ ≡ s) → not r ≡ true → Answered T X s t₁ false
-  refused same h =
-      let f = not-true r h in
-      let z = same f in
-      (sym f ∙ e, λ g. absurd (false≢true g), λ g. z, ap length z, λ i l. ap (λ (y : List ℕ). get_or y i 0) z)
-
-  module _ (search : r ≡ true → Found mask T s t₁) (h : not r ≡ false) where
+  module _ (search : r ≡ true → Found mask T s t₁) (h : r ≡ true) where
     abbrev E : Events
     E = events_of (weight_by mask) T
 
@@ -73,10 +67,10 @@ module _ (mask : ℕ) (T : Table) {s t₁ : List ℕ} {r : Bool} (e : r ≡ work
     n = T.rows
 
     w : workable_in few_cells T (length s) ≡ true
-    w = sym e ∙ not-false r h
+    w = sym e ∙ h
 
     d : Found mask T s t₁
-    d = search (not-false r h)
+    d = search h
 
     shape : Shape winch T
     shape = within_shape few_cells T (length s) w

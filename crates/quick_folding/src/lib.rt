@@ -1,6 +1,7 @@
 #![tactic(auto)]
 // The rows into which rows fold, without distances: level by level the rows that need a level join those before them, and fold into the first row of their class.
-ghost use Rattle.std.specs.Prelude.{◌≡◌, cond, true, false, ◌⊎◌, ℕ, ◌+◌, ◌*◌, ◌≤◌, ◌<◌, length, get_or};
+ghost use Rattle.std.specs.Prelude.{◌≡◌, cond, true, false, ℕ, ◌+◌, ◌*◌, ◌≤◌, ◌<◌, length, get_or, IfSome};
+ghost use Rattle.std.specs.Option.{unwrap_or};
 ghost use Rattle.tables.specs.Table.{weight_by, machine, events_of};
 ghost use Rattle.tables.specs.Reduction.{order};
 ghost use Rattle.rules.specs.Rules.{table_of, offset_of};
@@ -23,43 +24,25 @@ fn append(scratch: &mut [u16], n: usize, u: usize, i: usize, count: usize)
     requires { Appendable n u i count scratch.old }
     ensures { Appended n u i count scratch.old scratch.new }
 {
-    let mut x = 0;
-    while x < count {
+    for x in 0..count {
         let q = scratch[3 * n + (i + x)];
         scratch[3 * n + (u + x)] = q;
-        scratch[2 * n + rules::wide(q)] = (u + x) as u16;
-        x += 1;
+        scratch[2 * n + q as usize] = (u + x) as u16;
     }
 }
 
 // Whether the leader of every place below u is the value of its row.
-fn still(scratch: &[u16], n: usize, u: usize, level: usize, lost: usize) -> bool
-    requires { Renewable n u level lost scratch.now }
+fn still(scratch: &[u16], n: usize, u: usize) -> bool
+    requires { let s = scratch.now in (n ≤ 1024) × (12 * n ≤ length s) × (u ≤ n) × ((c : ℕ) → c < u → list_at n s c < n) }
     ensures { (result ≡ true → Still n u scratch.now) × (result ≡ false → 0 < u) }
 {
-    let mut i = 0;
-    while i < u {
-        let row = rules::wide(scratch[3 * n + i]);
+    for i in 0..u {
+        let row = scratch[3 * n + i] as usize;
         if scratch[4 * n + i] != scratch[2 * n + row] {
             return false;
         }
-        i += 1;
     }
     true
-}
-
-// Whether all is still: no place below u has lost its lead, if it is known how many have, or the leader of every one is the value of its row.
-fn quiet(scratch: &[u16], n: usize, u: usize, level: usize, lost: usize) -> bool
-    requires { Renewable n u level lost scratch.now }
-    ensures { (result ≡ true → (lost ≡ 0) ⊎ Still n u scratch.now) × (result ≡ false → 0 < u) }
-{
-    if lost == 0 {
-        return true;
-    }
-    if lost <= 1024 {
-        return false;
-    }
-    still(scratch, n, u, level, lost)
 }
 
 // The value of row q becomes its leader, and the level is noted where that is another.
@@ -68,90 +51,83 @@ fn relabel_row(scratch: &mut [u16], n: usize, level: usize, q: usize)
     ensures { Relabelled n level q scratch.old scratch.new }
 {
     let v = scratch[2 * n + q];
-    let w = scratch[4 * n + rules::wide(v)];
-    if w == v {
-        return;
+    let w = scratch[4 * n + v as usize];
+    if w != v {
+        scratch[2 * n + q] = w;
+        scratch[5 * n + q] = level as u16;
     }
-    scratch[2 * n + q] = w;
-    scratch[5 * n + q] = level as u16;
 }
 
 // Each value becomes its leader.
-fn relabel(scratch: &mut [u16], n: usize, u: usize, level: usize, lost: usize)
-    requires { Renewable n u level lost scratch.old }
+fn relabel(scratch: &mut [u16], n: usize, level: usize)
+    requires { let s = scratch.old in (n ≤ 1024) × (12 * n ≤ length s) × (level ≤ 65535) × ((q : ℕ) → q < n → value_at n s q < n) }
     ensures { Relabelling n level n scratch.old scratch.new }
 {
-    let mut q = 0;
-    while q < n {
+    for q in 0..n {
         relabel_row(scratch, n, level, q);
-        q += 1;
     }
 }
 
 // Whether few places have lost their lead, and each led its own row alone: then there is no need to look at all rows.
-fn few_alone(scratch: &[u16], n: usize, u: usize, level: usize, lost: usize) -> bool
-    requires { Renewable n u level lost scratch.now }
-    ensures { result ≡ true → (lost ≤ 1024) × Alone n lost scratch.now }
+fn few_alone(scratch: &[u16], n: usize, lost: usize) -> bool
+    requires { (n ≤ 1024) × (12 * n ≤ length scratch.now) × (lost ≤ n) }
+    ensures { result ≡ true → Alone n lost scratch.now }
 {
     if 8 < lost {
         return false;
     }
-    let mut x = 0;
-    while x < lost {
+    for x in 0..lost {
         if !scratch::once(scratch, 2 * n, n, scratch[7 * n + x]) {
             return false;
         }
-        x += 1;
     }
     true
 }
 
 // The value of the row that each of them led becomes the leader.
-fn relabel_lost(scratch: &mut [u16], n: usize, u: usize, level: usize, lost: usize)
-    requires { Renewable n u level lost scratch.old × (lost ≤ 1024) × Alone n lost scratch.old }
+fn relabel_lost(scratch: &mut [u16], n: usize, level: usize, lost: usize)
+    requires { (u : ℕ) × Renewable n u level lost scratch.old × (lost ≤ 1024) × Alone n lost scratch.old }
     ensures { Losing n level lost scratch.old scratch.new }
 {
-    let mut x = 0;
-    while x < lost {
-        let z = rules::wide(scratch[7 * n + x]);
-        let row = rules::wide(scratch[3 * n + z]);
+    for x in 0..lost {
+        let z = scratch[7 * n + x] as usize;
+        let row = scratch[3 * n + z] as usize;
         relabel_row(scratch, n, level, row);
-        x += 1;
     }
 }
 
-// Each value becomes its leader, unless all is still; answers whether it is.
-fn renew(scratch: &mut [u16], n: usize, u: usize, level: usize, lost: usize) -> bool
-    requires { Renewable n u level lost scratch.old }
-    ensures { Renewed n u level lost scratch.old scratch.new result }
+// Each value becomes its leader, unless all is still: no place below u has lost its lead, if it is known how many have, or the leader of every one is the value of its row.
+// Answers whether it is.
+fn renew(scratch: &mut [u16], n: usize, u: usize, level: usize, lost: Option<usize>) -> bool
+    requires { Renewable n u level (unwrap_or lost 1025) scratch.old × IfSome lost (λ x. x ≤ 1024) }
+    ensures { Renewed n u level (unwrap_or lost 1025) scratch.old scratch.new result }
 {
-    if quiet(scratch, n, u, level, lost) {
-        return true;
+    match lost {
+        Some(0) => return true,
+        None if still(scratch, n, u) => return true,
+        Some(lost) if few_alone(scratch, n, lost) => relabel_lost(scratch, n, level, lost),
+        _ => relabel(scratch, n, level),
     }
-    if few_alone(scratch, n, u, level, lost) {
-        relabel_lost(scratch, n, u, level, lost);
-        return false;
-    }
-    relabel(scratch, n, u, level, lost);
     false
 }
 
 // The place of the row at place i among the kept ones, where `count` are kept so far: a row that leads moves down behind them.
-fn seat(scratch: &mut [u16], n: usize, u: usize, i: usize, count: usize) -> usize
+fn seat(scratch: &mut [u16], n: usize, u: usize, i: usize, count: usize) -> u16
     requires { Seating n u i count scratch.old }
     ensures { Seated n u i count scratch.old scratch.new result }
 {
-    let l = rules::wide(scratch[4 * n + i]);
-    if l == i {
+    let leader = scratch[4 * n + i];
+    if leader as usize == i {
         let q = scratch[3 * n + i];
-        scratch[7 * n + i] = count as u16;
+        let at = count as u16;
+        scratch[7 * n + i] = at;
         scratch[3 * n + count] = q;
-        return count;
+        at
+    } else if (leader as usize) < u {
+        leader
+    } else {
+        scratch[7 * n + leader as usize]
     }
-    if l < u {
-        return l;
-    }
-    rules::wide(scratch[7 * n + l])
 }
 
 // The new rows, at places from u on, fold into their leaders; those that lead are kept. Answers how many are kept now.
@@ -160,14 +136,12 @@ fn take_new(scratch: &mut [u16], n: usize, u: usize, more: usize) -> usize
     ensures { Taken n u more result scratch.old scratch.new }
 {
     let mut count = u;
-    let mut d = 0;
-    while d < more {
-        let q = rules::wide(scratch[3 * n + (u + d)]);
+    for d in 0..more {
+        let q = scratch[3 * n + (u + d)] as usize;
         let at = seat(scratch, n, u, u + d, count);
-        scratch[n + q] = at as u16;
-        scratch[2 * n + q] = at as u16;
-        d += 1;
-        if at == count {
+        scratch[n + q] = at;
+        scratch[2 * n + q] = at;
+        if at as usize == count {
             count += 1;
         }
     }
@@ -187,12 +161,10 @@ fn until(scratch: &[u16], n: usize, k: usize, i: usize, count: usize, level: usi
     requires { Searching n k i count scratch.now }
     ensures { Until n k i count level scratch.now result }
 {
-    let mut x = i;
-    while x < count {
-        if level < need(scratch, k, rules::wide(scratch[3 * n + x])) {
+    for x in i..count {
+        if level < need(scratch, k, scratch[3 * n + x] as usize) {
             return x;
         }
-        x += 1;
     }
     count
 }
@@ -203,9 +175,10 @@ fn next(scratch: &[u16], n: usize, k: usize, i: usize, level: usize, rest: bool)
     ensures { let s = scratch.now in result ≡ cond rest (need_cell k (lead_in s (list_at n s i))) (level + 1) }
 {
     if rest {
-        return need(scratch, k, rules::wide(scratch[3 * n + i]));
+        need(scratch, k, scratch[3 * n + i] as usize)
+    } else {
+        level + 1
     }
-    level + 1
 }
 
 // Where the sweep stands: the place in the order, how many rows are kept, the level, and whether nothing has moved at it. How many of the kept rows are in the table of
@@ -220,24 +193,24 @@ struct Stand {
     last: usize,
 }
 
-// Joins leaders of one signature, with an empty table. Answers how many places below u lead no more; more than 1,024 if there was no room.
+// Joins leaders of one signature, with an empty table. Answers how many places below u lead no more, if there was room.
 fn join_anew(
     mask: u32,
     n: usize,
     m: usize,
     u: usize,
     to: usize,
-    known: usize,
     last: usize,
     cells: &[u16],
     scratch: &mut [u16],
-) -> usize
-    requires { let x = cells.now in let s = scratch.old in Sizes n m to known s × (u ≤ to) × Begun mask n m to known last x s }
+) -> Option<usize>
+    requires { let x = cells.now in let s = scratch.old in Sizes n m to 0 s × (u ≤ to) × Begun mask n m to 0 last x s }
     ensures { let x = cells.now in let s = scratch.old in let t = scratch.new in
-        Kept n s t × (result ≤ 1024 → Joins mask n m u to x s t result) }
+        Kept n s t × IfSome result (λ r. (r ≤ 1024) × Joins mask n m u to x s t r) }
 {
     scratch::clear(scratch, 9 * n, 12 * n);
-    leaders::join(mask, n, m, u, to, 0, last, cells, scratch)
+    let lost = leaders::join(mask, n, m, u, to, 0, last, cells, scratch);
+    (lost <= 1024).then_some(lost)
 }
 
 // Joins leaders of one signature, where every idle event stays: with the table of the level before, and if there is none or no room in it, anew.
@@ -252,25 +225,24 @@ fn join_leaders(
     last: usize,
     cells: &[u16],
     scratch: &mut [u16],
-) -> usize
+) -> Option<usize>
     requires { let x = cells.now in let s = scratch.old in Sizes n m to known s × (u ≤ to) × (plain ≡ true → Begun mask n m to known last x s) }
     ensures { let x = cells.now in let s = scratch.old in let t = scratch.new in
-        Kept n s t × (result ≤ 1024 → (plain ≡ true) × Joins mask n m u to x s t result) }
+        Kept n s t × IfSome result (λ r. (r ≤ 1024) × (plain ≡ true) × Joins mask n m u to x s t r) }
 {
     if !plain {
-        return 1025;
+        return None;
     }
-    if known == 0 {
-        return join_anew(mask, n, m, u, to, known, last, cells, scratch);
+    if known > 0 {
+        let lost = leaders::join(mask, n, m, u, to, known, last, cells, scratch);
+        if lost <= 1024 {
+            return Some(lost);
+        }
     }
-    let lost = leaders::join(mask, n, m, u, to, known, last, cells, scratch);
-    if lost <= 1024 {
-        return lost;
-    }
-    join_anew(mask, n, m, u, to, 0, last, cells, scratch)
+    join_anew(mask, n, m, u, to, last, cells, scratch)
 }
 
-// The classes of a level: by the table of leaders, or else by splits. Answers how many places below u lead no more; more than 1,024 if that is not known.
+// The classes of a level: by the table of leaders, or else by splits. Answers how many places below u lead no more, if that is known.
 fn group(
     plain: bool,
     top: bool,
@@ -284,49 +256,40 @@ fn group(
     cells: &[u16],
     marks: &[u8],
     scratch: &mut [u16],
-) -> usize
+) -> Option<usize>
     requires { let x = cells.now in let s = scratch.old in Given n (values_by top mask n m to x marks.now s) x s × (known ≤ to) × (u ≤ to) × (plain ≡ true → Begun mask n m to known last x s) }
-    ensures { Grouped plain top mask n m u to cells.now marks.now scratch.old scratch.new result }
+    ensures { Grouped plain top mask n m u to cells.now marks.now scratch.old scratch.new (unwrap_or result 1025) × IfSome result (λ r. r ≤ 1024) }
 {
-    let lost = join_leaders(plain, mask, n, m, u, to, known, last, cells, scratch);
-    if lost <= 1024 {
-        return lost;
+    if let Some(lost) = join_leaders(plain, mask, n, m, u, to, known, last, cells, scratch) {
+        return Some(lost);
     }
     classes::settle(top, mask, n, m, to, cells, marks, scratch);
-    1025
+    None
 }
 
 // Where the sweep stands after a level: the u rows kept before it are in the table of leaders, if that was used.
-fn standing(place: usize, kept: usize, level: usize, rest: bool, lost: usize, u: usize) -> Stand
-    ensures { (result.place ≡ place) × (result.kept ≡ kept) × (result.level ≡ level) × (result.rest ≡ rest) × Tells u level rest lost result.known result.last }
+fn standing(
+    place: usize,
+    kept: usize,
+    level: usize,
+    rest: bool,
+    lost: Option<usize>,
+    u: usize,
+) -> Stand
+    requires { IfSome lost (λ x. x ≤ 1024) }
+    ensures { (result.place ≡ place) × (result.kept ≡ kept) × (result.level ≡ level) × (result.rest ≡ rest)
+        × Tells u level rest (unwrap_or lost 1025) result.known result.last }
 {
-    if 1024 < lost {
-        return Stand {
-            place: place,
-            kept: kept,
-            level: level,
-            rest: rest,
-            known: 0,
-            last: level,
-        };
-    }
-    if rest {
-        return Stand {
-            place: place,
-            kept: kept,
-            level: level,
-            rest: rest,
-            known: u,
-            last: 65536,
-        };
-    }
+    let known = if lost.is_some() { u } else { 0 };
+    // Where no value has changed, the last change is put above all levels.
+    let last = if rest { 65536 } else { level };
     Stand {
-        place: place,
-        kept: kept,
-        level: level,
-        rest: rest,
-        known: u,
-        last: level,
+        place,
+        kept,
+        level,
+        rest,
+        known,
+        last,
     }
 }
 
@@ -352,10 +315,9 @@ fn any_level(
         After E (machine T) k level j scratch.old scratch.new result.kept result.rest
         × (result.place ≡ j) × (result.level ≡ level) × Tabled mask T result.kept result.known result.last scratch.new }
 {
-    let i = x.place;
     let u = x.kept;
-    let more = j - i;
-    append(scratch, n, u, i, more);
+    let more = j - x.place;
+    append(scratch, n, u, x.place, more);
     let top = level == 0;
     let lost = group(
         plain,
@@ -397,11 +359,11 @@ fn first_level(
 {
     scratch::clear(scratch, 2 * n, 3 * n);
     let j = until(scratch, n, k, 0, count, 0);
-    let none = standing(0, 0, 0, false, 1025, 0);
+    let none = standing(0, 0, 0, false, None, 0);
     let made = any_level(
         k, mask, n, m, start, cells, marks, scratch, false, 0, j, none,
     );
-    standing(j, made.kept, 0, false, 1025, 0)
+    standing(j, made.kept, 0, false, None, 0)
 }
 
 // Whether row q has a lead, and event a leads to another row.
@@ -409,10 +371,7 @@ fn leaves(m: usize, cells: &[u16], scratch: &[u16], q: usize, a: usize) -> bool
     requires { (q < length scratch.now) × (q * m + a < length cells.now) }
     ensures { result ≡ false → (lead_in scratch.now q ≡ 0 → ⊥) → get_or cells.now (q * m + a) 0 ≡ q }
 {
-    if scratch[q] == 0 {
-        return false;
-    }
-    rules::wide(cells[q * m + a]) != q
+    scratch[q] != 0 && cells[q * m + a] as usize != q
 }
 
 // Whether event a counts, or stays on every row that has a lead.
@@ -423,12 +382,10 @@ fn stays(mask: u32, n: usize, m: usize, cells: &[u16], scratch: &[u16], a: usize
     if weights::weight(mask, a as u16) == 1 {
         return true;
     }
-    let mut q = 0;
-    while q < n {
+    for q in 0..n {
         if leaves(m, cells, scratch, q, a) {
             return false;
         }
-        q += 1;
     }
     true
 }
@@ -438,12 +395,10 @@ fn all_stay(mask: u32, n: usize, m: usize, cells: &[u16], scratch: &[u16]) -> bo
     requires { Staying n m cells.now scratch.now }
     ensures { result ≡ true → (a : ℕ) → a < m → StaysAt mask n m cells.now scratch.now a }
 {
-    let mut a = 0;
-    while a < m {
+    for a in 0..m {
         if !stays(mask, n, m, cells, scratch, a) {
             return false;
         }
-        a += 1;
     }
     true
 }
@@ -503,17 +458,18 @@ fn fold_all(
 }
 
 // An offset as a number of events: none is taken as twice the rows.
-fn far(offset: rules::Offset, n: usize) -> usize
+fn far(offset: Option<u16>, n: usize) -> usize
     requires { n ≤ 1024 }
     ensures { (result ≡ far_of n (offset_of offset)) × (result ≤ 65535) }
 {
     match offset {
-        rules::Offset::Number(k) => rules::wide(k),
-        rules::Offset::None => 2 * n,
+        Some(k) => k as usize,
+        None => 2 * n,
     }
 }
 
 // The row at the label of row q; 0 where it has no lead.
+#[tactic(auto, unfolding(crate::specs::Parts::fold_at))]
 fn fold_of(scratch: &[u16], n: usize, q: usize) -> u16
     requires { Labels n scratch.now × (q < n) }
     ensures { result ≡ fold_at n scratch.now q }
@@ -521,7 +477,7 @@ fn fold_of(scratch: &[u16], n: usize, q: usize) -> u16
     if scratch[q] == 0 {
         return 0;
     }
-    scratch[3 * n + rules::wide(scratch[n + q])]
+    scratch[3 * n + scratch[n + q] as usize]
 }
 
 // In place of the values, the rows at the labels: into which given row each row folds.
@@ -529,16 +485,14 @@ fn name_folds(scratch: &mut [u16], n: usize)
     requires { Labels n scratch.old }
     ensures { let s = scratch.old in Valued n n (fold_at n s) s scratch.new }
 {
-    let mut q = 0;
-    while q < n {
+    for q in 0..n {
         scratch[2 * n + q] = fold_of(scratch, n, q);
-        q += 1;
     }
 }
 
 // Into which row each row of a table folds, at an offset and with the weights of events by a mask; answers whether the table is valid and there is room.
 pub fn fold_rows(
-    offset: rules::Offset,
+    offset: Option<u16>,
     mask: u32,
     rows: usize,
     events: usize,

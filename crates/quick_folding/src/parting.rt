@@ -8,6 +8,7 @@ ghost use Rattle.quick_folding.specs.State.{Fits, Stays, Tabled, Laid, Apart};
 ghost use Rattle.quick_folding.specs.Parting.{loss_at, apart_at, Noting, Parted, Measured};
 
 // The level at which the row at place c lost its lead: one noted before, or this one; 0 if it leads.
+#[tactic(auto, unfolding(crate::specs::Parting::loss_at))]
 fn loss(scratch: &[u16], n: usize, u: usize, c: usize, level: usize) -> u16
     requires { Noting n u level scratch.now × (c < u) }
     ensures { result ≡ loss_at n level scratch.now c }
@@ -16,8 +17,8 @@ fn loss(scratch: &[u16], n: usize, u: usize, c: usize, level: usize) -> u16
     if noted != 0 {
         return noted;
     }
-    let row = rules::wide(scratch[3 * n + c]);
-    if rules::wide(scratch[2 * n + row]) == c {
+    let row = scratch[3 * n + c] as usize;
+    if scratch[2 * n + row] as usize == c {
         return 0;
     }
     level as u16
@@ -28,10 +29,8 @@ fn note_losses(scratch: &mut [u16], n: usize, u: usize, level: usize)
     requires { Noting n u level scratch.old }
     ensures { let s = scratch.old in Wrote (8 * n) u (loss_at n level s) s scratch.new }
 {
-    let mut c = 0;
-    while c < u {
+    for c in 0..u {
         scratch[8 * n + c] = loss(scratch, n, u, c, level);
-        c += 1;
     }
 }
 
@@ -64,7 +63,7 @@ fn part_level(
     );
     note_losses(scratch, n, u, level);
     if made.rest {
-        return super::standing(count, u, n, true, 1025, 0);
+        return super::standing(count, u, n, true, None, 0);
     }
     made
 }
@@ -94,6 +93,7 @@ pub(crate) fn part_all(
 }
 
 // The least distance of row q from the rows before it: 0 where it has folded, else the level noted at its place. 0 where it has no lead.
+#[tactic(auto, unfolding(crate::specs::Parting::apart_at))]
 fn apart_of(scratch: &[u16], n: usize, q: usize) -> u16
     requires { Labels n scratch.now × (q < n) }
     ensures { result ≡ apart_at n scratch.now q }
@@ -101,8 +101,8 @@ fn apart_of(scratch: &[u16], n: usize, q: usize) -> u16
     if scratch[q] == 0 {
         return 0;
     }
-    let c = rules::wide(scratch[n + q]);
-    if rules::wide(scratch[3 * n + c]) != q {
+    let c = scratch[n + q] as usize;
+    if scratch[3 * n + c] as usize != q {
         return 0;
     }
     levels::parted(scratch[8 * n + c])
@@ -113,9 +113,7 @@ pub(crate) fn name_apart(scratch: &mut [u16], n: usize)
     requires { Labels n scratch.old }
     ensures { let s = scratch.old in Valued n n (apart_at n s) s scratch.new }
 {
-    let mut q = 0;
-    while q < n {
+    for q in 0..n {
         scratch[2 * n + q] = apart_of(scratch, n, q);
-        q += 1;
     }
 }

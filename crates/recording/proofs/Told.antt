@@ -18,7 +18,6 @@ use Rattle.tables.proofs.Lengths.{Below, depth_below}
 use Rattle.tables.proofs.Counted.{mask_light}
 use Rattle.tables.proofs.Theorems.{kept_itself}
 use Rattle.scratch.specs.Scratch.{len_cell}
-use Rattle.records.specs.declared.Record.{Record}
 use Rattle.records.specs.declared.Depth.{Depth}
 use Rattle.records.specs.declared.Fate.{Fate}
 use Rattle.records.specs.Records.{depth_by, fate_by, record_at_row}

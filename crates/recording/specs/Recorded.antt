@@ -1,10 +1,9 @@
 -- The lent records after a call of the reducer.
-use Rattle.std.specs.Prelude.{List, ◌++◌, map, length, drop}
+use Rattle.std.specs.Prelude.{List, ◌++◌, map, length, drop, Ok, Err}
 use Rattle.automata.specs.Runs.{Len, len, endless}
 use Rattle.tables.specs.Reduction as spec
 use Rattle.tables.specs.Reduction.{kept_as, folded_into, unreached}
-use Rattle.rules.specs.declared.Verdict.{Verdict}
-use Rattle.rules.specs.declared.Verdict.TheVariants.{Fine, Refused}
+use Rattle.rules.specs.Rules.{Verdict}
 use Rattle.records.specs.declared.Record.{Record}
 use Rattle.records.specs.declared.Depth.{Depth}
 use Rattle.records.specs.declared.Depth.TheVariants.{Number, Endless}
@@ -26,5 +25,5 @@ record_of r = record { depth = depth_of r.depth; fate = fate_of r.fate }
 
 -- The lent records afterwards.
 abbrev pub records_by : Verdict → List Record → List spec.Record → List Record
-records_by Fine d l = map record_of l ++ drop (length l) d
-records_by (Refused number place) d l = d
+records_by (Ok u) d l = map record_of l ++ drop (length l) d
+records_by (Err r) d l = d

@@ -32,10 +32,7 @@ fn depth_of(lead: u16) -> Depth
     if lead == 65535 {
         return Depth::Endless;
     }
-    if lead == 0 {
-        return Depth::Number(0);
-    }
-    Depth::Number(lead - 1)
+    Depth::Number(lead.saturating_sub(1))
 }
 
 // The fate of a row with this lead that folds into `fold`, and whose number is one more than its new one.
@@ -48,18 +45,15 @@ fn fate_of(row: u16, lead: u16, fold: u16, number: u16) -> Fate
     if fold != row {
         return Fate::Folded(fold);
     }
-    if number == 0 {
-        return Fate::Kept(0);
-    }
-    Fate::Kept(number - 1)
+    Fate::Kept(number.saturating_sub(1))
 }
 
 // The record of a row.
 fn record_at(scratch: &[u16], rows: u16, row: u16) -> Record
     ensures { result ≡ record_at_row scratch.now rows row }
 {
-    let at = rules::wide(row);
-    let n = rules::wide(rows);
+    let at = row as usize;
+    let n = rows as usize;
     let lead = scratch::cell(scratch, at);
     let fold = scratch::cell(scratch, 2 * n + at);
     let number = scratch::cell(scratch, 3 * n + at);
@@ -73,21 +67,14 @@ fn record_at(scratch: &[u16], rows: u16, row: u16) -> Record
 pub fn fewer(rows: u16, room: usize) -> u16
     ensures { result ≡ min rows room }
 {
-    if room < rules::wide(rows) {
-        return room as u16;
-    }
-    rows
+    room.min(rows as usize) as u16
 }
 
 // Writes the record of each row, as far as there is room.
 pub fn write_records(records: &mut [Record], scratch: &[u16], rows: u16)
     ensures { records.new ≡ written records.old scratch.now rows (min rows (length records.old)) }
 {
-    let count = fewer(rows, records.len());
-    let mut i = 0u16;
-    while i < count {
-        let r = record_at(scratch, rows, i);
-        records[i as usize] = r;
-        i = i + 1;
+    for i in 0..fewer(rows, records.len()) {
+        records[i as usize] = record_at(scratch, rows, i);
     }
 }

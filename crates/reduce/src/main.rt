@@ -1,18 +1,20 @@
 #![tactic(auto)]
 // `reduce`: reads an offset, a mask of the events that count and an image from standard input, and prints the listing of the reduced table, or the refusal.
+ghost use Rattle.desk.specs.Printed.{printed};
+
 use std::io;
 
-// Input that fills the buffer is longer than any sound one, and is refused whatever follows. There is room for all of the text
-// (`short` in crates/desk/proofs/Short.antt).
-fn main(rt: HostRuntime) -> io::Result<()> {
-    let mut source = rt.stdin();
-    let mut input = [0u8; 65536];
-    let n = input::read_full(&mut source, &mut input)?;
-    if !input::all_read(&mut source, n, 65536)? {
-        return Err(io::Error::other("reduce: standard input"));
+// The text is made by `desk`; there is room for all of it (`short` in crates/desk/proofs/Short.antt).
+struct Reduce;
+
+impl filters::Desk for Reduce {
+    ghost printed = { printed };
+
+    fn write(input: &[u8], out: &mut [u8]) -> usize {
+        desk::write_text(input, out)
     }
-    let mut out = [0u8; 65536];
-    let length = desk::write_text(&input[..n], &mut out);
-    printing::print(&mut rt.stdout(), &out, length)?;
-    Ok(())
+}
+
+fn main(rt: HostRuntime) -> io::Result<()> {
+    filters::run::<Reduce, _, _>("reduce: standard input", &mut rt.stdin(), &mut rt.stdout())
 }

@@ -6,8 +6,7 @@ use listing::put_listing;
 use printing::put_line;
 use records::{Depth, Fate, Record};
 use reducer::Outcome;
-use reduction_rules::Answer;
-use rules::Offset;
+use rules::Table;
 use std::io;
 use text::put_text;
 use ways::Way;
@@ -24,14 +23,12 @@ fn put_uncleared(out: &mut [u8], at: usize, cells: &[u16]) -> usize {
 
 // The listing of a reduction of table D. The new table has no more rows than the given one.
 fn put_case(out: &mut [u8], at: usize, cells: &[u16], marks: &[u8], done: Outcome) -> usize {
-    let answer = done.answer;
-    let records = done.records;
-    match answer {
-        Answer::Reduced(left) => {
+    match done.answer {
+        Ok(left) => {
             let kept = records::fewer(4, left);
-            put_listing(out, at, kept, 2, 2, cells, marks, 4, records)
+            put_listing(out, at, kept, 2, 2, cells, marks, 4, done.records)
         }
-        Answer::Refused(number, place) => put_refusal(out, at, number, place),
+        Err(refusal) => put_refusal(out, at, refusal.rule.number(), refusal.place),
     }
 }
 
@@ -39,15 +36,18 @@ fn put_case(out: &mut [u8], at: usize, cells: &[u16], marks: &[u8], done: Outcom
 fn table_d(out: &mut [u8], at: usize, name: &[u8], way: Way, scratch: &mut [u16]) -> usize {
     let mut newcells = [9999u16; 8];
     let mut newmarks = [99u8; 1];
+    let table = Table {
+        rows: 4,
+        events: 2,
+        start: 3,
+        cells: &[1, 2, 0, 0, 0, 0, 0, 0],
+        marks: &[2],
+    };
     let done = reducer::reduce_recorded(
         way,
-        Offset::Number(1),
+        Some(1),
         3,
-        4,
-        2,
-        3,
-        &[1, 2, 0, 0, 0, 0, 0, 0],
-        &[2],
+        table,
         &mut newcells,
         &mut newmarks,
         [Record {

@@ -7,16 +7,15 @@ use lib.ListN.{length, get_or}
 use Rattle.tables.specs.Lists.{over}
 use Rattle.tables.specs.Table.{Table, Offset, Valid, weight_by}
 use Rattle.tables.specs.Reduction.{reduced}
-use Rattle.rules.specs.Rules.{left_by}
-use Rattle.rules.specs.declared.Verdict.{Verdict}
-use Rattle.rules.specs.declared.Verdict.TheVariants.{Fine, Refused}
+use Rattle.rules.specs.Rules.{Verdict, sound, left_by}
+use Rattle.std.specs.Prelude.{Result, Ok, Err}
+use Rattle.rules.specs.declared.Refusal.{Refusal}
 use Rattle.scratch.proofs.Works.{valid_within}
 use Rattle.renumbering.specs.Renumber.{left}
 use Rattle.renumbering.proofs.Left.{all_room, room-told}
 use Rattle.ways.specs.Ways.{need_of}
 use Rattle.ways.specs.declared.Way.{Way}
 use Rattle.ways.proofs.Needs.{four_regions}
-use Rattle.reduction_rules.specs.declared.Answer.TheVariants as answer
 use Rattle.reduction.specs.declared.Done.{Done}
 use Rattle.reduction_rules.specs.Checks.{verdict}
 use Rattle.reduction.specs.Working.{work_by, Worked, Rewritten}
@@ -32,37 +31,36 @@ module _ (way : Way) (k : Offset) (mask : ℕ) (T : Table) (bytes : (i : ℕ) �
   U = reduced (weight_by mask) k T
 
   -- What the contract says.
-  abbrev Left : Verdict → Done → List ℕ → List ℕ → List ℕ → Type 0
+  abbrev Left : Verdict → Result Done Refusal → List ℕ → List ℕ → List ℕ → Type 0
   Left u w c m s = (w ≡ work_by need u k mask T) × (c ≡ left_by u cells U.cells) × (m ≡ left_by u marks U.marks) × Worked need u k mask T scratch s
-      × (u ≡ Fine → Valid T)
+      × (u ≡ sound → Valid T)
 
-  sound : verdict need mask T (length cells) (length marks) records (length scratch) ≡ Fine → Valid T
-  sound e = verdict_valid need mask T (length cells) (length marks) records (length scratch) e bytes
+  is_valid : verdict need mask T (length cells) (length marks) records (length scratch) ≡ sound → Valid T
+  is_valid e = verdict_valid need mask T (length cells) (length marks) records (length scratch) e bytes
 
-  pub work_refused : (number place : ℕ) → v ≡ Refused number place
-      → Left (verdict need mask T (length cells) (length marks) records (length scratch)) (record { answer = answer.Refused number place; rows = 0; used = 0 }) cells marks scratch
-  work_refused number place e =
-      let h : Refused number place ≡ verdict need mask T (length cells) (length marks) records (length scratch) = sym e ∙ hv in
-      subst (λ (u : Verdict). Left u (record { answer = answer.Refused number place; rows = 0; used = 0 }) cells marks scratch) h (
+  pub work_refused : (r : Refusal) → v ≡ Err r → Left (verdict need mask T (length cells) (length marks) records (length scratch)) (Err r) cells marks scratch
+  work_refused r e =
+      let h : Err r ≡ verdict need mask T (length cells) (length marks) records (length scratch) = sym e ∙ hv in
+      subst (λ (u : Verdict). Left u (Err r) cells marks scratch) h (
         refl,
         refl,
         refl,
-        record { told = λ f. absurd (differ f); size = refl; beyond = λ i g. refl; refused = λ a b g. refl },
+        record { told = λ f. absurd (differ f); size = refl; beyond = λ i g. refl; refused = λ x g. refl },
         λ f. absurd (differ f),
       )
     where
-      differ : Refused number place ≡ Fine → ⊥
+      differ : Err r ≡ sound → ⊥
       differ f = let z : ◌≡◌ {A = ℕ} 0 1 = cc in absurd (omega arith)
 
-  module _ (e : v ≡ Fine) where
+  module _ (e : v ≡ sound) where
     roomy : Roomy need T (length cells) (length marks) records (length scratch)
-    roomy = fine-roomy need mask T (length cells) (length marks) records (length scratch) (sym hv ∙ e) (sound (sym hv ∙ e))
+    roomy = fine-roomy need mask T (length cells) (length marks) records (length scratch) (sym hv ∙ e) (is_valid (sym hv ∙ e))
 
     pub fine-rows : T.rows ≤ 1024
     fine-rows = roomy.valid.rows_fit
 
     pub work-fine : {r used : ℕ} {t c m : List ℕ} → Rewritten need k mask T cells marks scratch r c m t → used ≡ need T.rows
-        → Left (verdict need mask T (length cells) (length marks) records (length scratch)) (record { answer = answer.Reduced r; rows = T.rows; used = used }) c m t
+        → Left (verdict need mask T (length cells) (length marks) records (length scratch)) (Ok (record { left = r; rows = T.rows; used = used })) c m t
     work-fine {r} {used} {t} {c} {m} w hu =
         let s = w.between in
         let F = w.folded (roomy-works roomy) in
@@ -70,18 +68,18 @@ module _ (way : Way) (k : Offset) (mask : ℕ) (T : Table) (bytes : (i : ℕ) �
         let fit = all_room T s cells marks works roomy.cells_fit roomy.marks_fit in
         let h = room-told T s cells marks fit w.rows_left w.numbered w.cells_written w.marks_written in
         let same : left T s ≡ U = left-reduced k mask T roomy.valid s F.folds in
-        subst (λ (u : Verdict). Left u (record { answer = answer.Reduced r; rows = T.rows; used = used }) c m t) (sym e ∙ hv) (
-          (λ i. record { answer = answer.Reduced ((h.0 ∙ ap (λ (N : Table). N.rows) same) i); rows = T.rows; used = hu i }),
+        subst (λ (u : Verdict). Left u (Ok (record { left = r; rows = T.rows; used = used })) c m t) (sym e ∙ hv) (
+          (λ i. Ok (record { left = (h.0 ∙ ap (λ (N : Table). N.rows) same) i; rows = T.rows; used = hu i })),
           h.2 ∙ ap (λ (N : Table). over cells 0 N.cells) same,
           h.3 ∙ ap (λ (N : Table). over marks 0 N.marks) same,
           record {
             told = λ f. told k mask T roomy.valid s F.folds t h.1;
             size = h.1.1.size ∙ F.size;
             beyond = λ i g. h.1.1.behind i (omega (arith, four_regions way T.rows)) ∙ F.beyond i g;
-            refused = λ a b f. absurd (differ f);
+            refused = λ x f. absurd (differ f);
           },
           λ f. roomy.valid,
         )
       where
-        differ : {a b : ℕ} → Fine ≡ Refused a b → ⊥
-        differ {a} {b} f = let z : ◌≡◌ {A = ℕ} 0 1 = cc in absurd (omega arith)
+        differ : {x : Refusal} → sound ≡ Err x → ⊥
+        differ {x} f = let z : ◌≡◌ {A = ℕ} 0 1 = cc in absurd (omega arith)

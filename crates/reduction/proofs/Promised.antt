@@ -9,33 +9,47 @@ use Rattle.automata.specs.Runs.{AgreeFrom}
 use Rattle.tables.specs.Lists.{over}
 use Rattle.tables.specs.Table.{Table, Offset, offset, none, Valid, mark_byte_count, machine, events_of, weight_by, Fewest}
 use Rattle.tables.specs.Reduction.{reduced}
-use Rattle.tables.proofs.Over.{over_none, take-over}
+use Rattle.tables.proofs.Over.{take-over}
 use Rattle.tables.proofs.Counted.{mask_light}
 use Rattle.tables.proofs.Theorems.{never-more, valid, agrees, agrees_none, fewest, same_events, start_zero}
-use Rattle.rules.specs.Rules.{left_by}
-use Rattle.rules.specs.declared.Verdict.{Verdict}
-use Rattle.rules.specs.declared.Verdict.TheVariants.{Fine, Refused}
+use Rattle.rules.specs.Rules.{Verdict, sound, left_by}
+use Rattle.std.specs.Prelude.{Result, Ok, Err}
+use Rattle.rules.specs.declared.Refusal.{Refusal}
 use Rattle.scratch.specs.Scratch.{cleared}
-use Rattle.scratch.proofs.Cells.{clear_front, clear_work}
-use Rattle.reduction_rules.specs.declared.Answer.{Answer}
-use Rattle.reduction_rules.specs.declared.Answer.TheVariants as answer
+use Rattle.scratch.proofs.Cells.{clear_work}
 use Rattle.reduction.specs.declared.Done.{Done}
 use Rattle.reduction_rules.specs.Checks.{verdict, answer_by}
 use Rattle.reduction.specs.Reduce.{from, written, Promise}
-use Rattle.reduction.specs.Working.{unless_refused, work_by, Worked}
+use Rattle.reduction.specs.Working.{work_by, Worked}
 use Rattle.reduction_rules.proofs.Room.{Roomy, fine-roomy}
 
 -- An answer with a row count is given where no rule is broken.
-counted : (v : Verdict) (m n : ℕ) → answer_by v m ≡ answer.Reduced n → (v ≡ Fine) × (m ≡ n)
-counted Fine m n e = (refl, cc)
-counted (Refused number place) m n e = let z : ◌≡◌ {A = ℕ} 0 1 = cc in absurd (omega arith)
+counted : (v : Verdict) (m n : ℕ) → answer_by v m ≡ Ok n → (v ≡ sound) × (m ≡ n)
+counted (Ok u) m n e = (refl, cc)
+counted (Err r) m n e = let z : ◌≡◌ {A = ℕ} 0 1 = cc in absurd (omega arith)
+
+-- What the work answers tells its verdict.
+module _ (need : ℕ → ℕ) (v : Verdict) (k : Offset) (mask : ℕ) (T : Table) where
+  pub done : (d : Done) → Ok d ≡ work_by need v k mask T → (v ≡ sound) × (d.left ≡ (reduced (weight_by mask) k T).rows) × (d.rows ≡ T.rows) × (d.used ≡ need T.rows)
+  done d h = pick v h
+    where
+      pick : (u : Verdict) → Ok d ≡ work_by need u k mask T → (u ≡ sound) × (d.left ≡ (reduced (weight_by mask) k T).rows) × (d.rows ≡ T.rows) × (d.used ≡ need T.rows)
+      pick (Ok u) e = (refl, cc, cc, cc)
+      pick (Err r) e = let z : ◌≡◌ {A = ℕ} 0 1 = cc in absurd (omega arith)
+
+  pub undone : (r : Refusal) → Err r ≡ work_by need v k mask T → v ≡ Err r
+  undone r h = pick v h
+    where
+      pick : (u : Verdict) → Err r ≡ work_by need u k mask T → u ≡ Err r
+      pick (Ok u) e = let z : ◌≡◌ {A = ℕ} 0 1 = cc in absurd (omega arith)
+      pick (Err s) e = let same : s ≡ r = cc in ap Err same
 
 -- A table from its parts.
 table : (U : Table) {c m : List ℕ} {e s : ℕ} → c ≡ U.cells → m ≡ U.marks → e ≡ U.events → s ≡ U.start
     → ◌≡◌ {A = Table} (record { rows = U.rows; events = e; start = s; cells = c; marks = m }) U
 table U hc hm he hs = rw (hc, hm, he, hs)
 
-module _ (need : ℕ → ℕ) (k : Offset) (mask : ℕ) (T : Table) (cells marks scratch : List ℕ) (records : ℕ) (sound : verdict need mask T (length cells) (length marks) records (length scratch) ≡ Fine → Valid T) where
+module _ (need : ℕ → ℕ) (k : Offset) (mask : ℕ) (T : Table) (cells marks scratch : List ℕ) (records : ℕ) (valid_if : verdict need mask T (length cells) (length marks) records (length scratch) ≡ sound → Valid T) where
   abbrev v : Verdict
   v = verdict need mask T (length cells) (length marks) records (length scratch)
 
@@ -63,12 +77,12 @@ module _ (need : ℕ → ℕ) (k : Offset) (mask : ℕ) (T : Table) (cells marks
       pick none = agrees_none (weight_by mask) (mask_light mask T).at_most T h
 
   -- Demands 2 and 3 of what was written.
-  module _ (r : Answer) (cells' marks' : List ℕ) (hr : r ≡ answer_by v U.rows) (hc : cells' ≡ left_by v cells U.cells) (hm : marks' ≡ left_by v marks U.marks) (n : ℕ) (e : r ≡ answer.Reduced n) where
-    fine : v ≡ Fine
+  module _ (r : Result ℕ Refusal) (cells' marks' : List ℕ) (hr : r ≡ answer_by v U.rows) (hc : cells' ≡ left_by v cells U.cells) (hm : marks' ≡ left_by v marks U.marks) (n : ℕ) (e : r ≡ Ok n) where
+    fine : v ≡ sound
     fine = (counted v U.rows n (sym hr ∙ e)).0
 
     roomy : Roomy need T (length cells) (length marks) records (length scratch)
-    roomy = fine-roomy need mask T (length cells) (length marks) records (length scratch) fine (sound fine)
+    roomy = fine-roomy need mask T (length cells) (length marks) records (length scratch) fine (valid_if fine)
 
     stands : written n T.events cells' marks' ≡ U
     stands =
@@ -86,24 +100,32 @@ module _ (need : ℕ → ℕ) (k : Offset) (mask : ℕ) (T : Table) (cells marks
     keeps-valid : let N = written n T.events cells' marks' in Valid N × (N.events ≡ T.events)
     keeps-valid = (subst Valid (sym stands) (valid (weight_by mask) (mask_light mask T).at_most T roomy.valid k), refl)
 
-  -- Cleared after the work, the scratch is as promised.
-  finished : (u : Verdict) → v ≡ u → (t : List ℕ) → Worked need u k mask T scratch t → cleared t 0 (unless_refused u (need T.rows)) ≡ left_by u scratch (replicate (need T.rows) 0)
-  finished Fine e t w =
-      let r = fine-roomy need mask T (length cells) (length marks) records (length scratch) e (sound e) in
-      clear_work (need T.rows) scratch t r.scratch_fits w.size w.beyond
-  finished (Refused number place) e t w = ap (λ (x : List ℕ). cleared x 0 0) (w.refused number place refl) ∙ clear_front scratch 0 (omega arith) ∙ over_none scratch 0
+  -- The promise, however the answer and the scratch came about.
+  module _ (cells' marks' : List ℕ) (hc : cells' ≡ left_by v cells U.cells) (hm : marks' ≡ left_by v marks U.marks) where
+    kept : (r : Result ℕ Refusal) (scratch' : List ℕ) → r ≡ answer_by v U.rows → scratch' ≡ left_by v scratch (replicate (need T.rows) 0)
+        → Promise need v k mask T cells marks scratch r cells' marks' scratch'
+    kept r scratch' hr hs = record {
+      answers = hr;
+      cells_after = hc;
+      marks_after = hm;
+      scratch_after = hs;
+      demand_2 = keeps-2 r cells' marks' hr hc hm;
+      demand_3 = keeps-3 r cells' marks' hr hc hm;
+      one_of_those = keeps-valid r cells' marks' hr hc hm;
+    }
 
-  -- The promise: w is what the work answers, and t the scratch that it leaves.
-  pub promised : (w : Done) (cells' marks' t scratch' : List ℕ) → w ≡ work_by need v k mask T → cells' ≡ left_by v cells U.cells → marks' ≡ left_by v marks U.marks
-      → Worked need v k mask T scratch t → scratch' ≡ cleared t 0 w.used → Promise need v k mask T cells marks scratch w.answer cells' marks' scratch'
-  promised w cells' marks' t scratch' hw hc hm ht hs =
-      let hr : w.answer ≡ answer_by v U.rows = ap (λ (d : Done). d.answer) hw in
-      record {
-        answers = hr;
-        cells_after = hc;
-        marks_after = hm;
-        scratch_after = hs ∙ ap (λ (d : Done). cleared t 0 d.used) hw ∙ finished v refl t ht;
-        demand_2 = keeps-2 w.answer cells' marks' hr hc hm;
-        demand_3 = keeps-3 w.answer cells' marks' hr hc hm;
-        one_of_those = keeps-valid w.answer cells' marks' hr hc hm;
-      }
+    module _ (t : List ℕ) (w : Worked need v k mask T scratch t) where
+      -- The work refuses, and leaves the scratch t.
+      pub promised_refused : {x : Result Done Refusal} {r : Refusal} → x ≡ work_by need v k mask T → x ≡ Err r → Promise need v k mask T cells marks scratch (Err r) cells' marks' t
+      promised_refused {x} {r} h was =
+          let e = undone need v k mask T r (sym was ∙ h) in
+          kept (Err r) t (sym (ap (λ (u : Verdict). answer_by u U.rows) e)) (w.refused r e ∙ sym (ap (λ (u : Verdict). left_by u scratch (replicate (need T.rows) 0)) e))
+
+      -- It is done, and the scratch is cleared after it.
+      pub promised : {x : Result Done Refusal} {d : Done} {scratch' : List ℕ} → x ≡ work_by need v k mask T → x ≡ Ok d → scratch' ≡ cleared t 0 d.used
+          → Promise need v k mask T cells marks scratch (Ok d.left) cells' marks' scratch'
+      promised {x} {d} {scratch'} h was hs =
+          let e = done need v k mask T d (sym was ∙ h) in
+          let r = fine-roomy need mask T (length cells) (length marks) records (length scratch) e.0 (valid_if e.0) in
+          kept (Ok d.left) scratch' (ap Ok e.1 ∙ sym (ap (λ (u : Verdict). answer_by u U.rows) e.0))
+          (hs ∙ ap (cleared t 0) e.3 ∙ clear_work (need T.rows) scratch t r.scratch_fits w.size w.beyond ∙ sym (ap (λ (u : Verdict). left_by u scratch (replicate (need T.rows) 0)) e.0))

@@ -1,24 +1,20 @@
 -- What stands where between the work and the records.
-use Rattle.std.specs.Prelude.{◌≡◌, true, List, ℕ, ◌+◌, ◌-◌, ◌*◌, ◌≤◌, ◌<◌, length, get_or}
+use Rattle.std.specs.Prelude.{◌≡◌, true, List, ℕ, ◌+◌, ◌-◌, ◌*◌, ◌≤◌, ◌<◌, length, get_or, Result, Ok, Err}
 use Rattle.automata.specs.Runs.{Events, Machine}
 use Rattle.tables.specs.Table.{Table, Offset, machine, events_of, weight_by}
 use Rattle.tables.specs.Lengths.{lead, reached}
 use Rattle.tables.specs.Reduction.{fold, number, reduced}
-use Rattle.rules.specs.declared.Verdict.{Verdict}
-use Rattle.rules.specs.declared.Verdict.TheVariants.{Fine, Refused}
+use Rattle.rules.specs.Rules.{Verdict, sound}
+use Rattle.rules.specs.declared.Refusal.{Refusal}
 use Rattle.scratch.specs.Scratch.{len_cell, workable_in}
-use Rattle.reduction_rules.specs.Checks.{answer_by}
 use Rattle.either_way.specs.Folding.{FoldedBy}
 use Rattle.renumbering.specs.Renumber.{new_rows, new_cells, new_marks, NewScratch}
 use Rattle.reduction.specs.declared.Done.{Done}
 
--- How many records there are to write, or scratch cells to clear: none on a refusal.
-abbrev pub unless_refused : Verdict → ℕ → ℕ
-unless_refused Fine n = n
-unless_refused (Refused number place) n = 0
-
-abbrev pub work_by : (ℕ → ℕ) → Verdict → Offset → ℕ → Table → Done
-work_by need v k mask T = record { answer = answer_by v (reduced (weight_by mask) k T).rows; rows = unless_refused v T.rows; used = unless_refused v (need T.rows) }
+-- What the work answers: how many rows are left, records are to be written and scratch cells to be cleared, or the refusal.
+abbrev pub work_by : (ℕ → ℕ) → Verdict → Offset → ℕ → Table → Result Done Refusal
+work_by need (Ok u) k mask T = Ok (record { left = (reduced (weight_by mask) k T).rows; rows = T.rows; used = need T.rows })
+work_by need (Err r) k mask T = Err r
 
 -- The scratch says of each row its lead; if the row is reached, into which row it folds; and if that is the row itself, one more than its new number.
 pub record Told (E : Events) (M : Machine) (k : Offset) (s : List ℕ) : Type 0 where
@@ -28,10 +24,10 @@ pub record Told (E : Events) (M : Machine) (k : Offset) (s : List ℕ) : Type 0 
 
 -- What the work leaves in scratch: on a refusal all as it was; else what it tells, and nothing has changed beyond the cells that it needs.
 pub record Worked (need : ℕ → ℕ) (v : Verdict) (k : Offset) (mask : ℕ) (T : Table) (s t : List ℕ) : Type 0 where
-  pub told : v ≡ Fine → Told (events_of (weight_by mask) T) (machine T) k t
+  pub told : v ≡ sound → Told (events_of (weight_by mask) T) (machine T) k t
   pub size : length t ≡ length s
   pub beyond : (i : ℕ) → need T.rows ≤ i → get_or t i 0 ≡ get_or s i 0
-  pub refused : (number place : ℕ) → v ≡ Refused number place → t ≡ s
+  pub refused : (r : Refusal) → v ≡ Err r → t ≡ s
 
 -- What folding and numbering leave: between them the scratch was such that rows had folded, if the table could be worked on.
 pub record Rewritten (need : ℕ → ℕ) (k : Offset) (mask : ℕ) (T : Table) (cells marks scratch : List ℕ) (r : ℕ) (cells' marks' scratch' : List ℕ) : Type 0 where

@@ -1,5 +1,5 @@
 -- Rule 7, check by check, and what it means that no rule is broken.
-use mathlib.Core.Path.{◌≡◌, sym, ap, subst, ◌∙◌}
+use mathlib.Core.Path.{◌≡◌, sym, ◌∙◌}
 use mathlib.Core.Bool.{true, false}
 use mathlib.Core.List.{List, [], ◌∷◌}
 use Prim.Native.Nat.{ℕ, ◌*◌, ◌≤◌, ◌<◌}
@@ -7,58 +7,32 @@ use borrow.Author.Tests.{ltb-false}
 use lib.ListN.{get_or}
 use Rattle.tables.specs.Table.{Table, Valid, mark_byte_count}
 use Rattle.weights.specs.Weights.{spare_bit_set}
-use Rattle.rules.specs.Rules.{judged, winch, mask_rule, masked_checks}
+use Rattle.rules.specs.Rules.{Verdict, sound, judged, winch, mask_rule, masked_checks}
+use Rattle.std.specs.Prelude.{Err}
+use Rattle.rules.specs.declared.Refusal.{Refusal}
 use Rattle.rules.specs.declared.Limits.{Limits}
-use Rattle.rules.specs.declared.Verdict.{Verdict}
-use Rattle.rules.specs.declared.Verdict.TheVariants.{Fine, Refused}
 use Rattle.rules.proofs.Checks.{unbroken, passed}
-use Rattle.rules.proofs.First.{room_broken, room_kept, table-refused, table-then, fine_valid, more-fine, valid_masked}
+use Rattle.rules.proofs.First.{room_kept, table-refused, table-then, fine_valid, more-fine, valid_masked}
 use Rattle.scratch.specs.Scratch.{workable_in}
 use Rattle.scratch.proofs.Works.{valid_within}
 use Rattle.reduction_rules.specs.Checks.{room_checks, verdict}
 
--- A product of numbers as the code has them.
-pub same_product : {x y rows events cells : ℕ} → x ≡ rows → y ≡ events → x * y ≤ cells → rows * events ≤ cells
-same_product {x} {y} {rows} {events} {cells} e f h = subst (λ (m : ℕ). m ≤ cells) (ap (λ (u : ℕ). u * y) e ∙ ap (λ (u : ℕ). rows * u) f) h
-
-pub less_product : {x y rows events cells : ℕ} → x ≡ rows → y ≡ events → cells < x * y → cells < rows * events
-less_product {x} {y} {rows} {events} {cells} e f h = subst (λ (m : ℕ). cells < m) (ap (λ (u : ℕ). u * y) e ∙ ap (λ (u : ℕ). rows * u) f) h
-
--- The checks stop at the first buffer that is short.
-module _ (need : ℕ → ℕ) (rows events cells marks records scratch : ℕ) where
-  abbrev checks : Verdict
-  checks = judged (room_checks need rows events cells marks records scratch)
-
-  pub short_cells : cells < rows * events → Refused 7 0 ≡ checks
-  short_cells h = sym (rw (room_broken (rows * events) (cells) h))
-
-  module _ (c : rows * events ≤ cells) where
-    pub short-marks : marks < mark_byte_count rows → Refused 7 0 ≡ checks
-    short-marks h = sym (rw (room_kept (rows * events) (cells) c, room_broken (mark_byte_count rows) (marks) h))
-
-    module _ (m : mark_byte_count rows ≤ marks) where
-      pub short-records : records < rows → Refused 7 0 ≡ checks
-      short-records h = sym (rw (room_kept (rows * events) (cells) c, room_kept (mark_byte_count rows) (marks) m, room_broken (rows) (records) h))
-
-      module _ (r : rows ≤ records) where
-        pub short_scratch : scratch < need rows → Refused 7 0 ≡ checks
-        short_scratch h =
-            sym (rw (room_kept (rows * events) (cells) c, room_kept (mark_byte_count rows) (marks) m, room_kept (rows) (records) r, room_broken (need rows) (scratch) h))
-
-        pub all-fits : need rows ≤ scratch → Fine ≡ checks
-        all-fits h =
-            sym (rw (room_kept (rows * events) (cells) c, room_kept (mark_byte_count rows) (marks) m, room_kept (rows) (records) r, room_kept (need rows) (scratch) h))
+-- Where each buffer has the named length or more, rule 7 is kept.
+all-fits : (need : ℕ → ℕ) (rows events cells marks records scratch : ℕ) → rows * events ≤ cells → mark_byte_count rows ≤ marks → rows ≤ records → need rows ≤ scratch
+    → sound ≡ judged (room_checks need rows events cells marks records scratch)
+all-fits need rows events cells marks records scratch c m r s =
+    sym (rw (room_kept (rows * events) cells c, room_kept (mark_byte_count rows) marks m, room_kept rows records r, room_kept (need rows) scratch s))
 
 -- The verdict as the code makes it: of the table's and the mask's checks with the limits given, and then of the room.
 module _ (need : ℕ → ℕ) (mask : ℕ) (T : Table) (cells marks records scratch : ℕ) {L : Limits} {v : Verdict} (l : L ≡ winch) (e : v ≡ judged (masked_checks L mask T)) where
   abbrev room : List Verdict
   room = room_checks need T.rows T.events cells marks records scratch
 
-  pub verdict-refused : (number place : ℕ) → v ≡ Refused number place → Refused number place ≡ verdict need mask T cells marks records scratch
+  pub verdict-refused : (r : Refusal) → v ≡ Err r → Err r ≡ verdict need mask T cells marks records scratch
   unfolding verdict
   verdict-refused = table-refused T (mask_rule mask T.events ∷ []) l e room
 
-  pub verdict-room : v ≡ Fine → {u : Verdict} → u ≡ judged room → u ≡ verdict need mask T cells marks records scratch
+  pub verdict-room : v ≡ sound → {u : Verdict} → u ≡ judged room → u ≡ verdict need mask T cells marks records scratch
   unfolding verdict
   verdict-room h g = table-then T (mask_rule mask T.events ∷ []) l e h room g
 
@@ -70,7 +44,7 @@ pub record Roomy (need : ℕ → ℕ) (T : Table) (cells marks records scratch :
   pub records_fit : T.rows ≤ records
   pub scratch_fits : need T.rows ≤ scratch
 
-module _ (need : ℕ → ℕ) (mask : ℕ) (T : Table) (cells marks records scratch : ℕ) (e : verdict need mask T cells marks records scratch ≡ Fine) where
+module _ (need : ℕ → ℕ) (mask : ℕ) (T : Table) (cells marks records scratch : ℕ) (e : verdict need mask T cells marks records scratch ≡ sound) where
   pub verdict_valid : ((i : ℕ) → get_or T.marks i 0 < 256) → Valid T
   unfolding verdict
   verdict_valid bytes = fine_valid T (mask_rule mask T.events ∷ room_checks need T.rows T.events cells marks records scratch) e bytes
@@ -106,5 +80,5 @@ module _ (need : ℕ → ℕ) (mask : ℕ) (T : Table) (v : Valid T) (cells mark
       valid_masked mask T v (room_checks need T.rows T.events cells marks records scratch) (all-fits need T.rows T.events cells marks records scratch c m r s)
 
   -- and none is broken where it has no bit that belongs to no event.
-  pub accepts : spare_bit_set mask T.events ≡ false → verdict need mask T cells marks records scratch ≡ Fine
+  pub accepts : spare_bit_set mask T.events ≡ false → verdict need mask T cells marks records scratch ≡ sound
   accepts e = by_mask ∙ rw e

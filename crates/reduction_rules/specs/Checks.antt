@@ -1,11 +1,8 @@
 -- Which rules are judged before a table is reduced, in which order, and the answer.
-use Rattle.std.specs.Prelude.{List, [], ◌∷◌, ◌++◌, ℕ, ◌*◌}
+use Rattle.std.specs.Prelude.{List, [], ◌∷◌, ◌++◌, ℕ, ◌*◌, Result, Ok, Err}
 use Rattle.tables.specs.Table.{Table, mark_byte_count}
-use Rattle.rules.specs.Rules.{judged, winch, room_rule, masked_checks}
-use Rattle.rules.specs.declared.Verdict.{Verdict}
-use Rattle.rules.specs.declared.Verdict.TheVariants.{Fine, Refused}
-use Rattle.reduction_rules.specs.declared.Answer.{Answer}
-use Rattle.reduction_rules.specs.declared.Answer.TheVariants as answer
+use Rattle.rules.specs.Rules.{Verdict, judged, winch, room_rule, masked_checks}
+use Rattle.rules.specs.declared.Refusal.{Refusal}
 
 -- Rule 7, for a table of so many rows and events, where the lent buffers have so many cells, mark bytes, records and scratch cells; `need` says how many of the last so many rows need.
 abbrev pub room_checks : (ℕ → ℕ) → ℕ → ℕ → ℕ → ℕ → ℕ → ℕ → List Verdict
@@ -21,6 +18,6 @@ unfoldable pub verdict : (ℕ → ℕ) → ℕ → Table → ℕ → ℕ → ℕ
 verdict need mask T cells marks records scratch = judged (reduce_checks need mask T cells marks records scratch)
 
 -- The answer: the new row count, or the refusal.
-abbrev pub answer_by : Verdict → ℕ → Answer
-answer_by Fine rows = answer.Reduced rows
-answer_by (Refused number place) rows = answer.Refused number place
+abbrev pub answer_by : Verdict → ℕ → Result ℕ Refusal
+answer_by (Ok u) rows = Ok rows
+answer_by (Err r) rows = Err r

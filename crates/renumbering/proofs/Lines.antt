@@ -132,7 +132,7 @@ module _ (n : ℕ) (l s : List ℕ) (g : Lined n l s) where
   line_again count e = subst (λ (m : List ℕ). Lined n m s) (sym (line_list count e)) g
 
 -- ---- one row more
-module _ (n count x : ℕ) (s : List ℕ) (hc : count ≤ n) (hx : x < n) (g : Lined n (line_in n s count) s) where
+module _ {n count x : ℕ} {s : List ℕ} (hc : count ≤ n) (hx : x < n) (g : Lined n (line_in n s count) s) where
   abbrev l : List ℕ
   l = line_in n s count
 
@@ -166,11 +166,11 @@ module _ (n count x : ℕ) (s : List ℕ) (hc : count ≤ n) (hx : x < n) (g : L
     longʳ = omega (arith, length-append l (x ∷ []), long)
 
     -- So there is room for it.
-    pub join-room : count < n
+    join-room : count < n
     join-room = omega (arith, longʳ, few (l ++ (x ∷ [])) n apartʳ (λ y h. insideʳ y (subst (Mem y) (sym siftʳ) h)))
 
-    pub join-out : (t : List ℕ) → t ≡ set (set s (n + count) x) (3 * n + x) (count + 1) → Joined (count + 1) (sift eqb l (x ∷ [])) t
-    join-out t e =
+    pub join_out : Joined (count + 1) (sift eqb l (x ∷ [])) (set (set s (n + count) x) (3 * n + x) (count + 1))
+    join_out =
         subst (λ (m : List ℕ). Joined (count + 1) m t) (sym siftʳ) (
           sym longʳ,
           record {
@@ -188,12 +188,15 @@ module _ (n count x : ℕ) (s : List ℕ) (hc : count ≤ n) (hx : x < n) (g : L
           },
         )
       where
+        t : List ℕ
+        t = set (set s (n + count) x) (3 * n + x) (count + 1)
+
         size : length t ≡ length s
-        size = ap length e ∙ length-set (set s (n + count) x) (3 * n + x) (count + 1) ∙ length-set s (n + count) x
+        size = length-set (set s (n + count) x) (3 * n + x) (count + 1) ∙ length-set s (n + count) x
 
         other : (k : ℕ) → k ≢ n + count → k ≢ 3 * n + x → get_or t k 0 ≡ get_or s k 0
         other k a b =
-            ap (λ (u : List ℕ). get_or u k 0) e ∙ get_or-set_other (set s (n + count) x) (3 * n + x) k (count + 1) 0 b ∙ get_or-set_other s (n + count) k x 0 a
+            get_or-set_other (set s (n + count) x) (3 * n + x) k (count + 1) 0 b ∙ get_or-set_other s (n + count) k x 0 a
 
         there : (i : ℕ) → i < length (l ++ (x ∷ [])) → get_or t (n + i) 0 ≡ get_or (l ++ (x ∷ [])) i 0
         there i h = elim (dec_lt i count) [
@@ -204,15 +207,13 @@ module _ (n count x : ℕ) (s : List ℕ) (hc : count ≤ n) (hx : x < n) (g : L
             last : (i : ℕ) → i ≡ length l → get_or t (n + i) 0 ≡ get_or (l ++ (x ∷ [])) i 0
             last i q =
                 let at : n + i ≡ n + count = omega (arith, long) in
-                ap (λ (u : List ℕ). get_or u (n + i) 0) e
-                ∙ get_or-set_other (set s (n + count) x) (3 * n + x) (n + i) (count + 1) 0 (omega (arith, join-room))
+                get_or-set_other (set s (n + count) x) (3 * n + x) (n + i) (count + 1) 0 (omega (arith, join-room))
                 ∙ ap (λ (k : ℕ). get_or (set s (n + count) x) k 0) at ∙ get_or-set_same s (n + count) x 0 (omega (arith, join-room, g.room))
                 ∙ sym (get_or-append_seam l x [] 0) ∙ ap (λ (k : ℕ). get_or (l ++ (x ∷ [])) k 0) (sym q)
 
         numbered : (y : ℕ) → y < n → get_or t (3 * n + y) 0 ≡ number_of (l ++ (x ∷ [])) y
         numbered y h = elim (eq_or_ne y x) [
-          | inl q ↦ rw q (ap (λ (u : List ℕ). get_or u (3 * n + x) 0) e
-              ∙ get_or-set_same (set s (n + count) x) (3 * n + x) (count + 1) 0 (omega (arith, length-set s (n + count) x, g.room))
+          | inl q ↦ rw q (get_or-set_same (set s (n + count) x) (3 * n + x) (count + 1) 0 (omega (arith, length-set s (n + count) x, g.room))
               ∙ omega (arith, long) ∙ sym (number_last x l out))
           | inr q ↦ other (3 * n + y) (omega (arith, join-room)) (omega (arith, q)) ∙ g.numbers y h ∙ sym (number_other x l out y q)
         ]

@@ -39,21 +39,19 @@ module _ (T : Table) (s : List ℕ) where
     pub lined : Lined T.rows (in_line i) t
     pub frame : Frame T.rows c s t
     pub turns : i ≤ c
+    pub few : c ≤ T.rows
 
-module _ (T : Table) (v : Valid T) (s : List ℕ) where
+module _ {T : Table} (v : Valid T) (s : List ℕ) where
   abbrev n : ℕ
   n = T.rows
 
   abbrev f : ℕ → ℕ
   f = fold_row n s
 
-  pub gone_fits : {i c : ℕ} {t : List ℕ} → Gone T s i c t → c ≤ n
-  gone_fits {i} {c} {t} h = omega (arith, h.many, line_fits n (in_line T s i) t h.lined)
-
   -- The first row in line.
   pub gone-first : Lined n (f T.start ∷ []) s → Gone T s 0 1 s
   unfolding met
-  gone-first g = record { many = refl; lined = g; frame = frame_none n 1 s; turns = omega arith }
+  gone-first g = record { many = refl; lined = g; frame = frame_none n 1 s; turns = omega arith; few = v.some_row }
 
   -- The row whose turn it is.
   row_there : {i c : ℕ} {t : List ℕ} → Gone T s i c t → i < c → {row : ℕ} → row ≡ get_or t (n + i) 0 → row ≡ get_or (in_line T s i) i (f T.start)
@@ -71,16 +69,18 @@ module _ (T : Table) (v : Valid T) (s : List ℕ) where
   gone-next {i} {c} {t} h hi {row} {r} {u} hrow hr hl hf =
       let list : line_in n t c ≡ in_line T s i = line_list n (in_line T s i) t h.lined c h.many in
       let ahead : next T.cells t n T.events row ≡ tabulate T.events (λ a. f (target_of T (get_or (in_line T s i) i (f T.start)) a))
-      = tabulate-same T.events _ _ (λ a l. folds_stay h.frame (gone_fits h) _ ((targets T v).inside _)
+      = tabulate-same T.events _ _ (λ a l. folds_stay h.frame h.few _ ((targets T v).inside _)
       ∙ ap (λ (x : ℕ). f (get_or T.cells (x * T.events + a) 0)) (row_there h hi hrow)) in
       let more : sift eqb (line_in n t c) (next T.cells t n T.events row) ≡ in_line T s (i + 1)
       = ap (λ (l : List ℕ). sift eqb l (next T.cells t n T.events row)) list ∙ ap (sift eqb (in_line T s i)) ahead ∙ ap (in_line T s) (sym (add-one i)) in
       let longer : c ≤ r = omega (arith, h.many, ap length list, sift-length eqb (next T.cells t n T.events row) (line_in n t c)) in
+      let lined : Lined n (in_line T s (i + 1)) u = subst (λ (l : List ℕ). Lined n l u) more hl in
       record {
         many = hr ∙ ap length more;
-        lined = subst (λ (l : List ℕ). Lined n l u) more hl;
+        lined = lined;
         frame = frame_then h.frame (subst (λ (k : ℕ). Frame n k t u) (sym hr) hf) longer;
         turns = omega arith;
+        few = omega (arith, hr, ap length more, line_fits n (in_line T s (i + 1)) u lined);
       }
 
   -- All that are met have been gone through.
@@ -89,7 +89,7 @@ module _ (T : Table) (v : Valid T) (s : List ℕ) where
   gone-all {i} {c} {t} h g =
       let all : in_line T s i ≡ numbering T.events (machine T) f
       = sym (met-stops T.events (machine T) f (tabulate n f) (mem_tabulate n f T.start v.start_inside)
-      (λ x a hx ha. mem_tabulate n f (target_of T x a) ((targets T v).inside _)) (omega (arith, tabulate-length n f)) i (omega (arith, h.turns, gone_fits h)) (omega (arith, h.many))) in
+      (λ x a hx ha. mem_tabulate n f (target_of T x a) ((targets T v).inside _)) (omega (arith, tabulate-length n f)) i (omega (arith, h.turns, h.few)) (omega (arith, h.many))) in
       let many = h.many ∙ ap length all in
       (many, (subst (λ (l : List ℕ). Lined n l t) all h.lined, subst (λ (k : ℕ). Frame n k s t) many h.frame))
 

@@ -22,8 +22,9 @@ pub record Met (cells s : List ℕ) (n m row count a : ℕ) (c : ℕ) (t : List 
   pub many : c ≡ length (so_far cells s n m row count a)
   pub lined : Lined n (so_far cells s n m row count a) t
   pub frame : Frame n c s t
+  pub few : c ≤ n
 
-module _ (cells s : List ℕ) (n m row count : ℕ) (T : Targets n m cells) (hc : count ≤ n) (g : Lined n (line_in n s count) s) where
+module _ {cells s : List ℕ} {n m : ℕ} (row : ℕ) {count : ℕ} (T : Targets n m cells) (hc : count ≤ n) (g : Lined n (line_in n s count) s) where
   abbrev ahead : List ℕ
   ahead = next cells s n m row
 
@@ -33,10 +34,7 @@ module _ (cells s : List ℕ) (n m row count : ℕ) (T : Targets n m cells) (hc 
   -- No event yet.
   pub none-met : Met cells s n m row count 0 count s
   unfolding sift
-  none-met = record { many = sym (part_length s n count (omega (arith, g.room))); lined = g; frame = frame_none n count s }
-
-  pub met_fits : {a c : ℕ} {t : List ℕ} → Met cells s n m row count a c t → c ≤ n
-  met_fits {a} {c} {t} h = omega (arith, h.many, line_fits n (so_far cells s n m row count a) t h.lined)
+  none-met = record { many = sym (part_length s n count (omega (arith, g.room))); lined = g; frame = frame_none n count s; few = hc }
 
   -- One event more.
   pub meets : {a c : ℕ} {t : List ℕ} → Met cells s n m row count a c t → a < m → {x r : ℕ} {u : List ℕ} → x ≡ fold_row n t (get_or cells (row * m + a) 0)
@@ -45,17 +43,19 @@ module _ (cells s : List ℕ) (n m row count : ℕ) (T : Targets n m cells) (hc 
   meets {a} {c} {t} h ha {x} {r} {u} hx hr hl hf =
       let list : line_in n t c ≡ so_far cells s n m row count a = line_list n (so_far cells s n m row count a) t h.lined c h.many in
       let value : x ≡ get_or ahead a 0
-      = hx ∙ folds_stay h.frame (met_fits h) (get_or cells (row * m + a) 0) (T.inside (row * m + a))
+      = hx ∙ folds_stay h.frame h.few (get_or cells (row * m + a) 0) (T.inside (row * m + a))
       ∙ sym (tabulate-at m (λ b. fold_row n s (get_or cells (row * m + b) 0)) a 0 ha) in
       let more : sift eqb (line_in n t c) (x ∷ []) ≡ so_far cells s n m row count (a + 1)
       = ap (λ (l : List ℕ). sift eqb l (x ∷ [])) list ∙ ap (λ (y : ℕ). sift eqb (so_far cells s n m row count a) (y ∷ [])) value
       ∙ sym (sift-append eqb (take a ahead) (get_or ahead a 0 ∷ []) (line_in n s count))
       ∙ ap (sift eqb (line_in n s count)) (sym (take-suc ahead a 0 (omega (arith, ahead-length)))) ∙ ap (so_far cells s n m row count) (sym (add-one a)) in
+      let lined : Lined n (so_far cells s n m row count (a + 1)) u = subst (λ (l : List ℕ). Lined n l u) more hl in
       record {
         many = hr ∙ ap length more;
-        lined = subst (λ (l : List ℕ). Lined n l u) more hl;
+        lined = lined;
         frame = frame_then h.frame (subst (λ (k : ℕ). Frame n k t u) (sym hr) hf)
             (omega (arith, h.many, ap length list, sift-length eqb (x ∷ []) (line_in n t c)));
+        few = omega (arith, hr, ap length more, line_fits n (so_far cells s n m row count (a + 1)) u lined);
       }
 
   -- All events.

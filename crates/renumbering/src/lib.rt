@@ -1,6 +1,6 @@
 #![tactic(auto)]
 // The table that is left when rows fold as the scratch says: its rows are numbered in the order in which they are met, and it is written out.
-ghost use Rattle.std.specs.Prelude.{◌≡◌, [], ◌∷◌, ℕ, ◌+◌, ◌*◌, ◌/◌, ◌%◌, ◌≤◌, ◌<◌, eqb, length};
+ghost use Rattle.std.specs.Prelude.{◌≡◌, [], ◌∷◌, ℕ, ◌+◌, ◌*◌, ◌≤◌, ◌<◌, eqb, length};
 ghost use Rattle.tables.specs.Table.{Valid, mark_byte_count, pack};
 ghost use Rattle.tables.specs.Lists.{tabulate, sift, over};
 ghost use Rattle.rules.specs.Rules.{table_of};
@@ -12,11 +12,8 @@ fn fold_of(scratch: &[u16], n: usize, q: usize) -> usize
     requires { (n ≤ 1024) × (q < n) × (4 * n ≤ length scratch.now) }
     ensures { (result ≡ fold_row n scratch.now q) × (result < n) }
 {
-    let x = rules::wide(scratch[2 * n + q]);
-    if x < n {
-        return x;
-    }
-    0
+    let x = scratch[2 * n + q] as usize;
+    if x < n { x } else { 0 }
 }
 
 // Puts row x behind the `count` rows in line and gives it a number, unless it has one; answers how many rows stand in line then.
@@ -40,12 +37,9 @@ fn meet(cells: &[u16], n: usize, m: usize, scratch: &mut [u16], row: usize, coun
         (result ≡ length l) × Lined n l scratch.new × Frame n (length l) s scratch.new }
 {
     let mut count = count;
-    let mut a = 0;
-    while a < m {
-        let to = rules::wide(cells[row * m + a]);
-        let x = fold_of(scratch, n, to);
+    for a in 0..m {
+        let x = fold_of(scratch, n, cells[row * m + a] as usize);
         count = join(scratch, n, count, x);
-        a += 1;
     }
     count
 }
@@ -65,8 +59,9 @@ fn go_through(
 {
     let mut count = 1;
     let mut i = 0;
+    // No range: the line grows while it is gone through.
     while i < count {
-        let row = rules::wide(scratch[n + i]);
+        let row = scratch[n + i] as usize;
         count = meet(cells, n, m, scratch, row, count);
         i += 1;
     }
@@ -103,16 +98,11 @@ fn new_target(
     a: usize,
 ) -> u16
     requires { Targets n m cells.now × Lined n (line_in n scratch.now count) scratch.now × (count ≤ n) × (i < count) × (a < m) }
-    ensures { (c : ℕ) → i ≡ c / m → a ≡ c % m → result ≡ target_of_new cells.now n m scratch.now c }
+    ensures { result ≡ target_of_new cells.now n m scratch.now (i * m + a) }
 {
-    let row = rules::wide(scratch[n + i]);
-    let to = rules::wide(cells[row * m + a]);
-    let x = fold_of(scratch, n, to);
-    let number = scratch[3 * n + x];
-    if number == 0 {
-        return 0;
-    }
-    number - 1
+    let row = scratch[n + i] as usize;
+    let x = fold_of(scratch, n, cells[row * m + a] as usize);
+    scratch[3 * n + x].saturating_sub(1)
 }
 
 // Writes the targets of the `count` new rows.
@@ -120,17 +110,9 @@ fn write_cells(cells: &[u16], n: usize, m: usize, scratch: &[u16], count: usize,
     requires { Targets n m cells.now × Lined n (line_in n scratch.now count) scratch.now × (count ≤ n) × (count * m ≤ length out.old) }
     ensures { out.new ≡ over out.old 0 (tabulate (count * m) (target_of_new cells.now n m scratch.now)) }
 {
-    let total = count * m;
-    let mut i = 0;
-    let mut a = 0;
-    let mut c = 0;
-    while c < total {
-        out[c] = new_target(cells, n, m, scratch, count, i, a);
-        c += 1;
-        a += 1;
-        if a == m {
-            a = 0;
-            i += 1;
+    for i in 0..count {
+        for a in 0..m {
+            out[i * m + a] = new_target(cells, n, m, scratch, count, i, a);
         }
     }
 }
@@ -141,10 +123,10 @@ fn new_mark(marks: &[u8], n: usize, scratch: &[u16], count: usize, i: usize) -> 
     ensures { result ≡ mark_of_new marks.now n scratch.now count i }
 {
     if i < count {
-        let row = rules::wide(scratch[n + i]);
-        return marks::mark(marks, row);
+        marks::mark(marks, scratch[n + i] as usize)
+    } else {
+        0
     }
-    0
 }
 
 // Writes the marks of the new rows, and clears the spare bits of the last byte.
@@ -152,11 +134,8 @@ fn write_marks(marks: &[u8], n: usize, scratch: &[u16], count: usize, out: &mut 
     requires { (count ≤ n) × (n ≤ 1024) × (n + count ≤ length scratch.now) × (mark_byte_count count ≤ length out.old) }
     ensures { out.new ≡ over out.old 0 (pack (tabulate count (mark_of_new marks.now n scratch.now count))) }
 {
-    let bits = 8 * marks::mark_bytes(count);
-    let mut i = 0;
-    while i < bits {
+    for i in 0..8 * marks::mark_bytes(count) {
         marks::put_mark(out, i, new_mark(marks, n, scratch, count, i));
-        i += 1;
     }
 }
 

@@ -11,30 +11,31 @@ use borrow.Author.Tests.{eqb-false, leb-false, ltb-false, ne_eqb, lt-leb, le-ltb
 use Rattle.automata.proofs.Tests.{either, clash}
 use Rattle.tables.specs.Lists.{position}
 use Rattle.tables.proofs.Lists.{at_mem, position_in, position_is}
-use Rattle.rules.specs.Rules.{rule, judged, outside}
-use Rattle.rules.specs.declared.Verdict.{Verdict}
-use Rattle.rules.specs.declared.Verdict.TheVariants.{Fine, Refused}
+use Rattle.rules.specs.Rules.{Verdict, sound, rule, judged, outside}
+use Rattle.std.specs.Prelude.{Ok, Err}
+use Rattle.rules.specs.declared.Rule.{Rule}
+use Rattle.rules.specs.declared.Refusal.{Refusal}
 
-refused : {A : Type 0} {number place : ℕ} → Refused number place ≡ Fine → A
+refused : {A : Type 0} {r : Refusal} → Err r ≡ sound → A
 refused e = let z : ◌≡◌ {A = ℕ} 0 1 = cc in absurd (omega arith)
 
-pub unbroken : (number : ℕ) (t : Bool) (place : ℕ) → rule number t place ≡ Fine → t ≡ false
-unbroken number true place e = refused e
-unbroken number false place e = refl
+pub unbroken : (r : Rule) (t : Bool) (place : ℕ) → rule r t place ≡ sound → t ≡ false
+unbroken r true place e = refused e
+unbroken r false place e = refl
 
 -- Each of the checks in a row finds nothing.
-pub passed : (l : List Verdict) → judged l ≡ Fine → (i : ℕ) → get_or l i Fine ≡ Fine
+pub passed : (l : List Verdict) → judged l ≡ sound → (i : ℕ) → get_or l i sound ≡ sound
 passed [] e i = refl
-passed (Fine ∷ l) e zero = refl
-passed (Fine ∷ l) e (suc i) = passed l e i
-passed (Refused number place ∷ l) e i = refused e
+passed (Ok u ∷ l) e zero = refl
+passed (Ok u ∷ l) e (suc i) = passed l e i
+passed (Err r ∷ l) e i = refused e
 
 -- So do those behind the first n.
-pub passed-behind : (n : ℕ) (l : List Verdict) → judged l ≡ Fine → judged (drop n l) ≡ Fine
+pub passed-behind : (n : ℕ) (l : List Verdict) → judged l ≡ sound → judged (drop n l) ≡ sound
 passed-behind zero l e = e
 passed-behind (suc n) [] e = refl
-passed-behind (suc n) (Fine ∷ l) e = passed-behind n l e
-passed-behind (suc n) (Refused number place ∷ l) e = refused e
+passed-behind (suc n) (Ok u ∷ l) e = passed-behind n l e
+passed-behind (suc n) (Err r ∷ l) e = refused e
 
 pub neither : (a b : Bool) → (a || b) ≡ false → (a ≡ false) × (b ≡ false)
 neither true b e = clash refl e

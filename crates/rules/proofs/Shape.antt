@@ -7,10 +7,9 @@ use borrow.Author.Tests.{leb-false, lt-leb, eqb-true, eq-eqb, not-false}
 use lib.ListN.{length, get_or}
 use Rattle.tables.specs.Table.{Table, Valid, mark_byte_count}
 use Rattle.marks.proofs.Laws.{spare_clear}
-use Rattle.rules.specs.Rules.{and_then, judged, winch, shape_checks, content_checks, table_checks}
+use Rattle.rules.specs.Rules.{Verdict, sound, and_then, judged, winch, shape_checks, content_checks, table_checks}
 use Rattle.rules.specs.declared.Limits.{Limits}
-use Rattle.rules.specs.declared.Verdict.{Verdict}
-use Rattle.rules.specs.declared.Verdict.TheVariants.{Fine, Refused}
+use Rattle.std.specs.Prelude.{Ok, Err}
 use Rattle.rules.proofs.Checks.{unbroken, passed, neither, inside, all_inside}
 use Rattle.rules.proofs.Judged.{judged-append, fine-first}
 
@@ -24,7 +23,7 @@ pub record Shape (L : Limits) (T : Table) : Type 0 where
   pub start_inside : T.start < T.rows
 
 module _ (L : Limits) (T : Table) where
-  pub shape_fine : judged (shape_checks L T) ≡ Fine → Shape L T
+  pub shape_fine : judged (shape_checks L T) ≡ sound → Shape L T
   shape_fine e =
       let at = passed (shape_checks L T) e in
       let rows = (inside _ _).0 (unbroken _ _ _ (at 0)) in
@@ -40,7 +39,7 @@ module _ (L : Limits) (T : Table) where
         start_inside = leb-false _ _ (unbroken _ _ _ (at 3));
       }
 
-  pub fine_shape : Shape L T → judged (shape_checks L T) ≡ Fine
+  pub fine_shape : Shape L T → judged (shape_checks L T) ≡ sound
   fine_shape s = simp (
     (inside L.rows T.rows).1 (s.some_row, s.rows_fit),
     (inside L.events T.events).1 (s.some_event, s.events_fit),
@@ -50,13 +49,13 @@ module _ (L : Limits) (T : Table) where
   )
 
   -- A table whose every check is passed has the right shape, and its contents pass.
-  pub table-fine : judged (table_checks L T) ≡ Fine → Shape L T × (judged (content_checks T.rows T.cells T.marks) ≡ Fine)
+  pub table-fine : judged (table_checks L T) ≡ sound → Shape L T × (judged (content_checks T.rows T.cells T.marks) ≡ sound)
   table-fine e = pick (judged (shape_checks L T)) refl (sym (judged-append (shape_checks L T) (content_checks T.rows T.cells T.marks)) ∙ e)
     where
-      pick : (v : Verdict) → judged (shape_checks L T) ≡ v → and_then v (judged (content_checks T.rows T.cells T.marks)) ≡ Fine
-          → Shape L T × (judged (content_checks T.rows T.cells T.marks) ≡ Fine)
-      pick Fine g h = (shape_fine g, h)
-      pick (Refused number place) g h = let z : ◌≡◌ {A = ℕ} 0 1 = cc in absurd (omega arith)
+      pick : (v : Verdict) → judged (shape_checks L T) ≡ v → and_then v (judged (content_checks T.rows T.cells T.marks)) ≡ sound
+          → Shape L T × (judged (content_checks T.rows T.cells T.marks) ≡ sound)
+      pick (Ok u) g h = (shape_fine g, h)
+      pick (Err r) g h = let z : ◌≡◌ {A = ℕ} 0 1 = cc in absurd (omega arith)
 
 pub valid_shape : (T : Table) → Valid T → Shape winch T
 valid_shape T v = record {
@@ -70,7 +69,7 @@ valid_shape T v = record {
 }
 
 -- No rule of a table is broken just if the table is valid, as far as its mark bytes are bytes.
-pub table_valid : (T : Table) → ((i : ℕ) → get_or T.marks i 0 < 256) → (judged (table_checks winch T) ≡ Fine) ↔ Valid T
+pub table_valid : (T : Table) → ((i : ℕ) → get_or T.marks i 0 < 256) → (judged (table_checks winch T) ≡ sound) ↔ Valid T
 table_valid T bytes = (
   λ e.
       let t = table-fine winch T e in

@@ -1,34 +1,68 @@
 -- "Refused, and on what": each rule as a test with its number and place, and the checks of a table in their order.
-use Rattle.std.specs.Prelude.{Bool, true, false, not, ◌||◌, List, [], ◌∷◌, ◌++◌, ℕ, ◌*◌, ◌/◌, eqb, leb, ltb, length, get_or}
+use Rattle.std.specs.Prelude.{Bool, true, false, not, ◌||◌, List, [], ◌∷◌, ◌++◌, ℕ, ◌*◌, ◌/◌, eqb, leb, ltb, length, get_or, Result, Ok, Err, Option, Some, None}
 use Rattle.tables.specs.Table.{Table, Offset, offset, none, mark_byte_count}
 use Rattle.tables.specs.Lists.{position, over}
 use Rattle.marks.specs.Marks.{spare_bits_set}
 use Rattle.weights.specs.Weights.{spare_bit_set}
 use Rattle.rules.specs.declared.Limits.{Limits}
-use Rattle.rules.specs.declared.Offset as Code
-use Rattle.rules.specs.declared.Offset.TheVariants.{Number, None}
-use Rattle.rules.specs.declared.Verdict.{Verdict}
-use Rattle.rules.specs.declared.Verdict.TheVariants.{Fine, Refused}
+use Rattle.rules.specs.declared.Rule.{Rule}
+use Rattle.rules.specs.declared.Rule.TheVariants.{Rows, Events, Lengths, Row, Target, SpareMark, Room, Short, Count, Trailing, Event, Large, List as ListRoom, Step, Pack, Mask, Seed, Run, Unlike}
+use Rattle.rules.specs.declared.Refusal.{Refusal}
+use Rattle.rules.specs.declared.Table as Lent
 
--- A broken rule refuses with its number and place; place is 0 where document 01 names none.
-abbrev pub rule : ℕ → Bool → ℕ → Verdict
-rule number true place = Refused number place
-rule number false place = Fine
+-- The number of each rule.
+abbrev pub number_of : Rule → ℕ
+number_of Rows = 1
+number_of Events = 2
+number_of Lengths = 3
+number_of Row = 4
+number_of Target = 5
+number_of SpareMark = 6
+number_of Room = 7
+number_of Short = 8
+number_of Count = 9
+number_of Trailing = 10
+number_of Event = 11
+number_of Large = 12
+number_of ListRoom = 13
+number_of Step = 14
+number_of Pack = 15
+number_of Mask = 16
+number_of Seed = 17
+number_of Run = 18
+number_of Unlike = 19
+
+-- A rule that is broken, at a place; place is 0 where document 01 names none.
+abbrev pub refusal : Rule → ℕ → Refusal
+refusal r place = record { rule = r; place = place }
+
+-- What checks say: nothing is broken, or which rule is, and where.
+abbrev pub Verdict : Type 0
+Verdict = Result Unit Refusal
+
+-- Nothing is broken.
+abbrev pub sound : Verdict
+sound = Ok tt
+
+-- A broken rule refuses.
+abbrev pub rule : Rule → Bool → ℕ → Verdict
+rule r true place = Err (refusal r place)
+rule r false place = sound
 
 -- The first refusal; then what comes after.
 abbrev pub and_then : Verdict → Verdict → Verdict
-and_then Fine v = v
-and_then (Refused number place) v = Refused number place
+and_then (Ok u) v = v
+and_then (Err e) v = Err e
 
 -- The first rule broken gives the answer.
 abbrev pub judged : List Verdict → Verdict
-judged [] = Fine
+judged [] = sound
 judged (v ∷ l) = and_then v (judged l)
 
 -- A lent buffer afterwards: s in front and what was there beyond it; all as it was if a rule is broken.
 abbrev pub left_by : Verdict → List ℕ → List ℕ → List ℕ
-left_by Fine d s = over d 0 s
-left_by (Refused number place) d s = d
+left_by (Ok u) d s = over d 0 s
+left_by (Err e) d s = d
 
 -- The winch: 1 to 1,024 rows and 1 to 32 events.
 abbrev pub winch : Limits
@@ -44,35 +78,35 @@ first_outside_at rows cells = position (leb rows) cells
 
 -- 1: the rows are 0 or above the limit.
 abbrev pub rows_rule : Limits → ℕ → Verdict
-rows_rule L rows = rule 1 (outside L.rows rows) 0
+rows_rule L rows = rule Rows (outside L.rows rows) 0
 
 -- 2: the events are 0 or above the limit.
 abbrev pub events_rule : Limits → ℕ → Verdict
-events_rule L events = rule 2 (outside L.events events) 0
+events_rule L events = rule Events (outside L.events events) 0
 
 -- 3: the given cells or mark bytes are not the number required.
 abbrev pub lengths_rule : Table → Verdict
-lengths_rule T = rule 3 (not (eqb (length T.cells) (T.rows * T.events)) || not (eqb (length T.marks) (mark_byte_count T.rows))) 0
+lengths_rule T = rule Lengths (not (eqb (length T.cells) (T.rows * T.events)) || not (eqb (length T.marks) (mark_byte_count T.rows))) 0
 
 -- 4: the start, or a follower's row, is no row.
 abbrev pub row_rule : ℕ → ℕ → Verdict
-row_rule rows row = rule 4 (leb rows row) 0
+row_rule rows row = rule Row (leb rows row) 0
 
 -- 5: a target is no row; place: the first such cell.
 abbrev pub cells_rule : ℕ → List ℕ → Verdict
-cells_rule rows cells = rule 5 (ltb (first_outside_at rows cells) (length cells)) (first_outside_at rows cells)
+cells_rule rows cells = rule Target (ltb (first_outside_at rows cells) (length cells)) (first_outside_at rows cells)
 
 -- 6: a spare mark bit is set, in the last byte.
 abbrev pub spare_rule : ℕ → ℕ → Verdict
-spare_rule rows last = rule 6 (spare_bits_set rows last) 0
+spare_rule rows last = rule SpareMark (spare_bits_set rows last) 0
 
 -- 7: a lent buffer is shorter than named.
 abbrev pub room_rule : ℕ → ℕ → Verdict
-room_rule needed given = rule 7 (ltb given needed) 0
+room_rule needed given = rule Room (ltb given needed) 0
 
 -- 16: "a mask bit at or above the event count is set".
 abbrev pub mask_rule : ℕ → ℕ → Verdict
-mask_rule mask events = rule 16 (spare_bit_set mask events) 0
+mask_rule mask events = rule Mask (spare_bit_set mask events) 0
 
 -- Rules 1 to 4, of a table that is given.
 abbrev pub shape_checks : Limits → Table → List Verdict
@@ -94,7 +128,11 @@ masked_checks L mask T = table_checks L T ++ (mask_rule mask T.events ∷ [])
 abbrev pub table_of : ℕ → ℕ → ℕ → List ℕ → List ℕ → Table
 table_of rows events start cells marks = record { rows = rows; events = events; start = start; cells = cells; marks = marks }
 
+-- A table as it is lent to a call.
+abbrev pub lent : Lent.Table → Table
+lent t = table_of t.rows t.events t.start t.cells.now t.marks.now
+
 -- The offset that the code's value stands for.
-abbrev pub offset_of : Code.Offset → Offset
-offset_of (Number k) = offset k
+abbrev pub offset_of : Option ℕ → Offset
+offset_of (Some k) = offset k
 offset_of None = none

@@ -1,5 +1,5 @@
 -- Cells that are cleared.
-use Prim.Native.Nat.{ℕ, zero, suc, ◌+◌, ◌-◌, ◌*◌, ◌≤◌, ◌<◌}
+use Prim.Native.Nat.{ℕ, zero, suc, ◌+◌, ◌-◌, ◌≤◌, ◌<◌}
 use mathlib.Core.Path.{◌≡◌, refl, sym, ap, subst, ◌∙◌}
 use mathlib.Core.List.{List, [], ◌∷◌, ◌++◌}
 use native.Mathlib.Nat.{zero-add}
@@ -39,9 +39,6 @@ pub clear_all : (s : List ℕ) (from to i : ℕ) (t : List ℕ) → t ≡ over s
     → t ≡ cleared s from to
 unfolding cleared
 clear_all s from to i t e h room = rw (le-ltb (length s) to room) (e ∙ ap (λ (k : ℕ). over s from (replicate k 0)) h)
-
-pub same_place : (s : List ℕ) {q m a x y z : ℕ} → x ≡ q → y ≡ m → z ≡ a → get_or s (x * y + z) 0 ≡ get_or s (q * m + a) 0
-same_place s e f g = rw (e, f, g)
 
 -- What stands in, before and behind cells that are cleared.
 module _ (s : List ℕ) (from to : ℕ) (le : from ≤ to) (room : to ≤ length s) where

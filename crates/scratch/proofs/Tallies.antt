@@ -29,6 +29,9 @@ module _ (s : List ℕ) (from x i : ℕ) where
   pub tally-more : (tally s from x i ≤ tally s from x (i + 1)) × (tally s from x (i + 1) ≤ tally s from x i + 1)
   tally-more = ⊎_elim (λ e. (omega (arith, tally_hit e), omega (arith, tally_hit e))) (λ e. (omega (arith, tally_miss e), omega (arith, tally_miss e))) (eq_or_ne (get_or s (from + i) 0) x)
 
+-- For `once`, which counts them.
+pub ruleset tallies = (tally-none, tally_hit, tally_miss)
+
 -- A cell that holds x is counted.
 tally-some : (s : List ℕ) (from x count j : ℕ) → j < count → get_or s (from + j) 0 ≡ x → 0 < tally s from x count
 tally-some s from x zero j h e = absurd (omega arith)

@@ -6,17 +6,16 @@ use borrow.Author.Tests.{not-true, not-false, leb-true, le-leb}
 use lib.Dec.{leb}
 use lib.ListN.{get_or}
 use Rattle.tables.specs.Table.{Table, Valid}
-use Rattle.rules.specs.Rules.{judged, winch, table_checks}
+use Rattle.rules.specs.Rules.{Verdict, sound, judged, winch, table_checks}
 use Rattle.rules.specs.declared.Limits.{Limits}
-use Rattle.rules.specs.declared.Verdict.{Verdict}
-use Rattle.rules.specs.declared.Verdict.TheVariants.{Fine, Refused}
+use Rattle.std.specs.Prelude.{Ok, Err}
 use Rattle.rules.proofs.Shape.{table-fine, table_valid}
 use Rattle.scratch.specs.Scratch.{fine, workable_in}
 
 -- No rule is broken just where the verdict is fine.
-is_fine : (v : Verdict) → fine v ≡ true → v ≡ Fine
-is_fine Fine h = refl
-is_fine (Refused number place) h = absurd (false≢true h)
+is_fine : (v : Verdict) → fine v ≡ true → v ≡ sound
+is_fine (Ok u) h = refl
+is_fine (Err e) h = absurd (false≢true h)
 
 -- The checks as the code made them, with the limits that it was given.
 module _ (T : Table) (L : Limits) (v : Verdict) (l : L ≡ winch) (e : v ≡ judged (table_checks L T)) where
@@ -48,13 +47,13 @@ module _ (T : Table) (valid : Bool) (e : valid ≡ fine (judged (table_checks wi
 
 module _ (need : ℕ → ℕ) (T : Table) (room : ℕ) where
   -- No check refuses it, and the room is enough.
-  pub within_fine : workable_in need T room ≡ true → (judged (table_checks winch T) ≡ Fine) × (need T.rows ≤ room)
+  pub within_fine : workable_in need T room ≡ true → (judged (table_checks winch T) ≡ sound) × (need T.rows ≤ room)
   unfolding workable_in
   within_fine e = pick (judged (table_checks winch T)) e
     where
-      pick : (v : Verdict) → cond (fine v) (leb (need T.rows) room) false ≡ true → (v ≡ Fine) × (need T.rows ≤ room)
-      pick Fine h = (refl, leb-true (need T.rows) room h)
-      pick (Refused number place) h = absurd (false≢true h)
+      pick : (v : Verdict) → cond (fine v) (leb (need T.rows) room) false ≡ true → (v ≡ sound) × (need T.rows ≤ room)
+      pick (Ok u) h = (refl, leb-true (need T.rows) room h)
+      pick (Err e) h = absurd (false≢true h)
 
   -- Mark bytes are bytes, as the code's types say.
   pub within_valid : workable_in need T room ≡ true → ((i : ℕ) → get_or T.marks i 0 < 256) → Valid T × (need T.rows ≤ room)

@@ -1,11 +1,9 @@
 -- The lent scratch: how many cells a call is lent, how lengths stand in them, and when a table can be worked on.
-use Rattle.std.specs.Prelude.{Bool, true, false, cond, List, ℕ, ◌+◌, ◌-◌, ◌*◌, ◌/◌, leb, ltb, length, get_or, replicate}
+use Rattle.std.specs.Prelude.{Bool, true, false, cond, List, ℕ, ◌+◌, ◌-◌, ◌*◌, ◌/◌, leb, ltb, length, get_or, replicate, Ok, Err}
 use Rattle.automata.specs.Runs.{Machine, Len, len, endless}
 use Rattle.tables.specs.Lists.{over}
 use Rattle.tables.specs.Table.{Table, machine}
-use Rattle.rules.specs.Rules.{table_of, judged, winch, table_checks}
-use Rattle.rules.specs.declared.Verdict.{Verdict}
-use Rattle.rules.specs.declared.Verdict.TheVariants.{Fine, Refused}
+use Rattle.rules.specs.Rules.{Verdict, table_of, judged, winch, table_checks}
 
 -- The lead of row q in a scratch that begins with the leads.
 abbrev pub lead_in : List ℕ → ℕ → ℕ
@@ -30,8 +28,8 @@ cleared s from to = cond (ltb (length s) to) s (over s from (replicate (to - fro
 
 -- No rule is broken.
 abbrev pub fine : Verdict → Bool
-fine Fine = true
-fine (Refused number place) = false
+fine (Ok u) = true
+fine (Err e) = false
 
 -- A table that breaks none of the rules 1 to 6, and room for the cells that its rows need.
 unfoldable pub workable_in : (ℕ → ℕ) → Table → ℕ → Bool

@@ -5,14 +5,16 @@ ghost use Rattle.rules.specs.Rules.{table_of, judged, winch, table_checks};
 ghost use Rattle.scratch.specs.Scratch.{cleared, fine};
 ghost use Rattle.scratch.specs.Tests.{Tested, Once};
 
+use rules::Table;
+
 // A cell; 0 beyond the last.
 pub fn cell(cells: &[u16], at: usize) -> u16
     ensures { result ≡ get_or cells.now at 0 }
 {
-    if at < cells.len() {
-        return cells[at];
+    match cells.get(at) {
+        Some(x) => *x,
+        None => 0,
     }
-    0
 }
 
 // Writes a cell; beyond the last it does nothing.
@@ -25,48 +27,35 @@ pub fn put(cells: &mut [u16], at: usize, x: u16)
 }
 
 // The target of a row and an event.
+#[tactic(auto, using(crate::proofs::Numbers::product_bound))]
 pub fn target(cells: &[u16], events: u16, row: u16, event: u16) -> u16
     ensures { result ≡ get_or cells.now (row * events + event) 0 }
 {
-    cell(
-        cells,
-        rules::wide(row) * rules::wide(events) + rules::wide(event),
-    )
+    cell(cells, row as usize * events as usize + event as usize)
 }
 
 // The cells from one place up to another become 0, where there are so many.
 pub fn clear(cells: &mut [u16], from: usize, to: usize)
     ensures { cells.new ≡ cleared cells.old from to }
 {
-    if cells.len() < to {
-        return;
-    }
-    let mut i = from;
-    while i < to {
-        cells[i] = 0;
-        i += 1;
+    if to <= cells.len() {
+        for i in from..to {
+            cells[i] = 0;
+        }
     }
 }
 
 // Whether there are `count` cells from a place on, no more than 65,535, and just one of them holds x. There is no way out of the loop, so that it runs on many cells at a time.
+#[tactic(auto, using(crate::proofs::Tallies::tallies))]
 pub fn once(cells: &[u16], from: usize, count: usize, x: u16) -> bool
     ensures { Tested result (Once from count x cells.now) }
 {
-    if cells.len() < count {
-        return false;
-    }
-    if cells.len() - count < from {
-        return false;
-    }
-    if 65535 < count {
+    if cells.len() < count || cells.len() - count < from || 65535 < count {
         return false;
     }
     let mut found: u16 = 0;
-    let mut i = 0;
-    while i < count {
-        let y = cells[from + i];
-        i += 1;
-        if y == x {
+    for i in 0..count {
+        if cells[from + i] == x {
             found += 1;
         }
     }
@@ -77,8 +66,12 @@ pub fn once(cells: &[u16], from: usize, count: usize, x: u16) -> bool
 pub fn valid(rows: usize, events: usize, start: usize, cells: &[u16], marks: &[u8]) -> bool
     ensures { result ≡ fine (judged (table_checks winch (table_of rows events start cells.now marks.now))) }
 {
-    match rules::check_table(rules::winch(), rows, events, start, cells, marks) {
-        rules::Verdict::Refused(number, place) => false,
-        rules::Verdict::Fine => true,
-    }
+    let table = Table {
+        rows,
+        events,
+        start,
+        cells,
+        marks,
+    };
+    rules::check_table(rules::winch(), table).is_ok()
 }

@@ -97,10 +97,6 @@ unfolding left_of
 settled-none n l = record { size = refl; rest = refl; done = λ i h. absurd (omega arith); ahead = λ i h. refl }
 
 module _ {n many : ℕ} {l₀ : List ℕ} (e : Enough n many l₀) {l : List ℕ} {left k : ℕ} (t : Settled n l₀ l left k) where
-  -- The next number can be taken away.
-  pub settled_enough : k < many → get_or l k 0 ≤ left
-  settled_enough h = omega (arith, t.ahead k (omega arith), t.rest, e.enough k h)
-
   pub settled-next : k < many → Settled n l₀ (set l k (left - get_or l k 0)) (left - get_or l k 0) (k + 1)
   unfolding left_of
   settled-next h =

@@ -20,26 +20,24 @@ fn first_gone(least: u16, lead: u16) -> usize
     if least == 0 {
         return 0;
     }
-    if least == ENDLESS {
-        return rules::wide(ENDLESS);
+    if least == ENDLESS || lead == ENDLESS {
+        return ENDLESS as usize;
     }
-    if lead == ENDLESS {
-        return rules::wide(ENDLESS);
-    }
-    rules::wide(least) + rules::wide(lead) - 1
+    least as usize + lead as usize - 1
 }
 
 // The same of any row, where the leads stand from a cell on; an unreached one is kept at no offset.
+#[tactic(auto, unfolding(crate::specs::Steps::goes_at))]
 fn goes_at(scratch: &[u16], from: usize, rows: u16, q: u16) -> usize
     requires { from ≤ length scratch.now }
     ensures { result ≡ goes_at from rows scratch.now q }
 {
-    let row = rules::wide(q);
+    let row = q as usize;
     let lead = scratch::cell(scratch, from + row);
     if lead == 0 {
         return 0;
     }
-    let least = scratch::cell(scratch, from + 2 * rules::wide(rows) + row);
+    let least = scratch::cell(scratch, from + 2 * rows as usize + row);
     first_gone(least, lead)
 }
 
@@ -49,7 +47,7 @@ fn count_one(list: &mut [u16], count: usize, at: usize)
     ensures { list.new ≡ counted list.old count at }
 {
     if at < count {
-        list[at] = list[at] + 1;
+        list[at] += 1;
     }
 }
 
@@ -59,10 +57,8 @@ fn tally(scratch: &[u16], from: usize, rows: u16, list: &mut [u16], count: usize
     ensures { list.new ≡ over list.old 0 (tabulate count (gone_at from rows scratch.now rows)) }
 {
     scratch::clear(list, 0, count);
-    let mut q = 0;
-    while q < rows {
+    for q in 0..rows {
         count_one(list, count, goes_at(scratch, from, rows, q));
-        q += 1;
     }
 }
 
@@ -72,11 +68,9 @@ fn settle(list: &mut [u16], rows: u16, count: usize)
     ensures { let l = list.old in list.new ≡ over l 0 (tabulate count (λ k. left_of rows l (k + 1))) }
 {
     let mut left = rows;
-    let mut k = 0;
-    while k < count {
+    for k in 0..count {
         left -= list[k];
         list[k] = left;
-        k += 1;
     }
 }
 
@@ -85,20 +79,17 @@ fn write_all(scratch: &[u16], from: usize, rows: u16, list: &mut [u16])
     requires { (entries rows ≤ length list.old) × (from ≤ length scratch.now) }
     ensures { list.new ≡ over list.old 0 (tabulate (entries rows) (kept_at from rows scratch.now)) }
 {
-    let count = 2 * rules::wide(rows) + 1;
+    let count = 2 * rows as usize + 1;
     tally(scratch, from, rows, list, count);
     settle(list, rows, count);
 }
 
 // The same, where the list has room for them and the leads begin no later than the scratch ends; otherwise nothing is written.
+#[tactic(auto, unfolding(crate::specs::Steps::filled))]
 pub fn fill(scratch: &[u16], from: usize, rows: u16, list: &mut [u16])
     ensures { list.new ≡ filled from rows scratch.now list.old }
 {
-    if list.len() < 2 * rules::wide(rows) + 1 {
-        return;
+    if 2 * rows as usize + 1 <= list.len() && from <= scratch.len() {
+        write_all(scratch, from, rows, list);
     }
-    if scratch.len() < from {
-        return;
-    }
-    write_all(scratch, from, rows, list);
 }

@@ -9,13 +9,12 @@ use Rattle.tables.specs.Table.{Table, Valid, offset, none, weight_by}
 use Rattle.tables.specs.Reduction.{reduced}
 use Rattle.weights.specs.Weights.{spare_bit_set, counted}
 use Rattle.weights.proofs.Counts.{counted-all}
-use Rattle.rules.specs.Rules.{mask_rule}
+use Rattle.rules.specs.Rules.{Verdict, number_of, sound, mask_rule}
+use Rattle.std.specs.Prelude.{Result, Ok, Err}
+use Rattle.rules.specs.declared.Rule.TheVariants.{Mask}
+use Rattle.rules.specs.declared.Refusal.{Refusal}
 use Rattle.rules.proofs.Checks.{unbroken}
-use Rattle.rules.specs.declared.Verdict.{Verdict}
-use Rattle.rules.specs.declared.Verdict.TheVariants.{Fine, Refused}
 use Rattle.pairs.proofs.Triangle.{needed-value, triangle_le, triangle_square}
-use Rattle.offsets.specs.declared.Listed.{Listed}
-use Rattle.offsets.specs.declared.Listed.TheVariants as listed
 use Rattle.sheet_rules.specs.Checks.{entries, verdict}
 use Rattle.offsets.specs.Sheet.{answer_by, Promise}
 use Rattle.sheet_rules.proofs.Room.{by_mask}
@@ -34,8 +33,8 @@ abbrev scratch₀ : List ℕ
 scratch₀ = replicate 8640 0
 
 -- The sheet's promise of these buffers, for a valid table.
-module _ {mask : ℕ} {T : Table} (fits : mask < 2 ^ 32) (valid : Valid T) (few : T.rows ≤ 128) {r : Listed} {list scratch : List ℕ}
-    (p : Promise (verdict mask T (length list₀) (length scratch₀)) mask T list₀ scratch₀ r list scratch) where
+module _ {mask : ℕ} {T : Table} (fits : mask < 2 ^ 32) (valid : Valid T) (few : T.rows ≤ 128) {a : Result ℕ Refusal} {list scratch : List ℕ}
+    (p : Promise (verdict mask T (length list₀) (length scratch₀)) mask T list₀ scratch₀ a list scratch) where
   -- They are long enough: the mask alone can break a rule.
   judged_so : verdict mask T (length list₀) (length scratch₀) ≡ mask_rule mask T.events
   judged_so = by_mask mask T (length list₀) (length scratch₀) record {
@@ -44,31 +43,31 @@ module _ {mask : ℕ} {T : Table} (fits : mask < 2 ^ 32) (valid : Valid T) (few 
     scratch_fits = omega (arith, needed-value T.rows, triangle_le T.rows 128 few, triangle_square 128, length-replicate {A = ℕ} 8640 0);
   }
 
-  answered : r ≡ answer_by (mask_rule mask T.events) (entries T.rows)
+  answered : a ≡ answer_by (mask_rule mask T.events) (entries T.rows)
   answered = p.answers ∙ ap (λ (v : Verdict). answer_by v (entries T.rows)) judged_so
 
   -- A refusal is that of the mask.
-  pub refusal_is : {number place : ℕ} → r ≡ listed.Refused number place → refusal_line number place ≡ masked_text mask (text_of_sheet mask) T
-  refusal_is {number} {place} e = pick (mask_rule mask T.events) (sym answered ∙ e)
+  pub refusal_is : {r : Refusal} → a ≡ Err r → refusal_line (number_of r.rule) r.place ≡ masked_text mask (text_of_sheet mask) T
+  refusal_is {r} e = pick (mask_rule mask T.events) (sym answered ∙ e)
     where
-      pick : (u : Verdict) → answer_by u (entries T.rows) ≡ listed.Refused number place → refusal_line number place ≡ text_by u (text_of_sheet mask T)
-      pick Fine e = let z : ◌≡◌ {A = ℕ} 0 1 = cc in absurd (omega arith)
-      pick (Refused n q) e = let hn : n ≡ number = cc in let hq : q ≡ place = cc in rw (hn, hq)
+      pick : (u : Verdict) → answer_by u (entries T.rows) ≡ Err r → refusal_line (number_of r.rule) r.place ≡ text_by u (text_of_sheet mask T)
+      pick (Ok u) e = let z : ◌≡◌ {A = ℕ} 0 1 = cc in absurd (omega arith)
+      pick (Err s) e = let same : s ≡ r = cc in rw same
 
-  module _ {n : ℕ} (e : r ≡ listed.Entries n) where
+  module _ {n : ℕ} (e : a ≡ Ok n) where
     -- With entries no bit of the mask belongs to no event.
-    kept : (mask_rule mask T.events ≡ Fine) × (n ≡ entries T.rows)
+    kept : (mask_rule mask T.events ≡ sound) × (n ≡ entries T.rows)
     kept = pick (mask_rule mask T.events) (sym answered ∙ e)
       where
-        pick : (u : Verdict) → answer_by u (entries T.rows) ≡ listed.Entries n → (u ≡ Fine) × (n ≡ entries T.rows)
-        pick Fine e = (refl, cc)
-        pick (Refused m q) e = let z : ◌≡◌ {A = ℕ} 0 1 = cc in absurd (omega arith)
+        pick : (u : Verdict) → answer_by u (entries T.rows) ≡ Ok n → (u ≡ sound) × (n ≡ entries T.rows)
+        pick (Ok u) e = (refl, cc)
+        pick (Err r) e = let z : ◌≡◌ {A = ℕ} 0 1 = cc in absurd (omega arith)
 
     all-entries : n ≡ entries T.rows
     all-entries = kept.1
 
     all-counted : counted mask 32 ≡ counted mask T.events
-    all-counted = counted-all mask T.events valid.events_fit fits (unbroken 16 (spare_bit_set mask T.events) 0 kept.0)
+    all-counted = counted-all mask T.events valid.events_fit fits (unbroken Mask (spare_bit_set mask T.events) 0 kept.0)
 
     module _ (size : length list ≡ length list₀) where
       -- The entries fit the list,

@@ -2,73 +2,42 @@
 // What the program `sheet` makes of the bytes that it reads: the text that it prints.
 ghost use Rattle.std.specs.Prelude.{◌≡◌, ◌≤◌, min, length};
 ghost use Rattle.tables.specs.Table.{Valid};
-ghost use Rattle.rules.specs.Rules.{table_of};
+ghost use Rattle.rules.specs.Rules.{lent};
 ghost use Rattle.text.specs.Text.{filled, Puts};
-ghost use Rattle.image_text.specs.ImageText.{text_of_image, masked_text};
+ghost use Rattle.image_text.specs.ImageText.{masked_text};
 ghost use Rattle.sheet_desk.specs.Printed.{text_of_sheet, printed};
 
-use image_sections::Read;
-use image_text::Loaded;
-use offsets::Listed;
+use image_text::TableText;
+use rules::Table;
 
 // Writes the text of a valid table of at most 128 rows, or the refusal of its mask.
-fn write_table_text(
-    mask: u32,
-    rows: usize,
-    events: usize,
-    start: usize,
-    cells: &[u16],
-    marks: &[u8],
-    out: &mut [u8],
-) -> usize
-    requires { Valid (table_of rows events start cells.now marks.now) × (rows ≤ 128) }
-    ensures { Puts out.old 0 (masked_text mask (text_of_sheet mask) (table_of rows events start cells.now marks.now)) out.new result }
+fn write_table_text(mask: u32, table: Table<'_>, out: &mut [u8]) -> usize
+    requires { Valid (lent table) × (table.rows ≤ 128) }
+    ensures { Puts out.old 0 (masked_text mask (text_of_sheet mask) (lent table.entry)) out.new result }
 {
     let mut list = [0u16; 257];
     let mut scratch = [0u16; 8640];
-    match offsets::write_sheet(
-        mask,
-        rows,
-        events,
-        start,
-        cells,
-        marks,
-        &mut list,
-        &mut scratch,
-    ) {
-        Listed::Refused(number, place) => lines::put_refusal(out, 0, number, place),
-        Listed::Entries(count) => sheet_text::put_sheet(
+    match offsets::write_sheet(mask, table, &mut list, &mut scratch) {
+        Err(of_mask) => lines::put_refusal(out, 0, of_mask.rule.number(), of_mask.place),
+        Ok(count) => sheet_text::put_sheet(
             out,
-            rows,
-            events,
+            table.rows,
+            table.events,
             weights::counted(mask),
             &list[..count],
         ),
     }
 }
 
-// Writes the text for an image.
-fn write_image_text(mask: u32, image: &[u8], out: &mut [u8]) -> usize
-    ensures { Puts out.old 0 (text_of_image (masked_text mask (text_of_sheet mask)) image.now) out.new result }
-{
-    let Loaded {
-        read,
-        cells,
-        marks,
-        count,
-        bytes,
-    } = image_text::load(image);
-    match read {
-        Read::Refused(number, place) => lines::put_refusal(out, 0, number, place),
-        Read::Table(rows, events, start) => write_table_text(
-            mask,
-            rows,
-            events,
-            start,
-            &cells[..count],
-            &marks[..bytes],
-            out,
-        ),
+// The sheet of a table.
+#[derive(Clone, Copy)]
+struct Sheet;
+
+impl TableText for Sheet {
+    ghost text = { λ _ mask. text_of_sheet mask };
+
+    fn write(&self, mask: u32, table: Table<'_>, out: &mut [u8]) -> usize {
+        write_table_text(mask, table, out)
     }
 }
 
@@ -82,5 +51,5 @@ pub fn write_sheet_text(input: &[u8], out: &mut [u8]) -> usize
         return lines::put_refusal(out, 0, 8, 0);
     }
     let mask = image_text::mask_of(input[0], input[1], input[2], input[3]);
-    write_image_text(mask, &input[4..], out)
+    image_text::write_image_text(&Sheet, mask, &input[4..], out)
 }

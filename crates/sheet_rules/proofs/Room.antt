@@ -8,10 +8,11 @@ use borrow.Author.Tests.{lt-ltb, le-ltb, ltb-false}
 use lib.ListN.{get_or}
 use Rattle.tables.specs.Table.{Table, Valid}
 use Rattle.weights.specs.Weights.{spare_bit_set}
-use Rattle.rules.specs.Rules.{judged, winch, mask_rule, masked_checks}
+use Rattle.rules.specs.Rules.{Verdict, sound, refusal, judged, winch, mask_rule, masked_checks}
+use Rattle.std.specs.Prelude.{Err}
+use Rattle.rules.specs.declared.Rule.TheVariants.{List, Room}
+use Rattle.rules.specs.declared.Refusal.{Refusal}
 use Rattle.rules.specs.declared.Limits.{Limits}
-use Rattle.rules.specs.declared.Verdict.{Verdict}
-use Rattle.rules.specs.declared.Verdict.TheVariants.{Fine, Refused}
 use Rattle.rules.proofs.Checks.{unbroken, passed}
 use Rattle.rules.proofs.First.{room_broken, room_kept, table-refused, table-then, fine_valid, more-fine, valid_masked}
 use Rattle.pairs.specs.Pairs.{needed}
@@ -21,7 +22,7 @@ use Rattle.sheet_rules.specs.Checks.{entries, room_checks, verdict}
 
 -- The checks stop at the first buffer that is short.
 module _ (rows list scratch : ℕ) where
-  pub short_scratch : scratch < needed rows → Refused 7 0 ≡ judged (room_checks rows list scratch)
+  pub short_scratch : scratch < needed rows → Err (refusal Room 0) ≡ judged (room_checks rows list scratch)
   short_scratch h =
       let g : scratch < scratch_cells rows = omega (arith, needed-value rows) in
       sym (rw (room_broken (scratch_cells rows) scratch g))
@@ -30,19 +31,19 @@ module _ (rows list scratch : ℕ) where
     scratch_fits : scratch_cells rows ≤ scratch
     scratch_fits = omega (arith, needed-value rows)
 
-    pub short_list : list < entries rows → Refused 13 0 ≡ judged (room_checks rows list scratch)
+    pub short_list : list < entries rows → Err (refusal List 0) ≡ judged (room_checks rows list scratch)
     short_list h = sym (rw (room_kept (scratch_cells rows) scratch scratch_fits, lt-ltb list (entries rows) h))
 
-    pub all-fits : entries rows ≤ list → Fine ≡ judged (room_checks rows list scratch)
+    pub all-fits : entries rows ≤ list → sound ≡ judged (room_checks rows list scratch)
     all-fits h = sym (rw (room_kept (scratch_cells rows) scratch scratch_fits, le-ltb list (entries rows) h))
 
 -- The verdict as the code makes it.
 module _ (mask : ℕ) (T : Table) (list scratch : ℕ) {L : Limits} {v : Verdict} (l : L ≡ winch) (e : v ≡ judged (masked_checks L mask T)) where
-  pub verdict-refused : (number place : ℕ) → v ≡ Refused number place → Refused number place ≡ verdict mask T list scratch
+  pub verdict-refused : (r : Refusal) → v ≡ Err r → Err r ≡ verdict mask T list scratch
   unfolding verdict
   verdict-refused = table-refused T (mask_rule mask T.events ∷ []) l e (room_checks T.rows list scratch)
 
-  pub verdict-room : v ≡ Fine → {u : Verdict} → u ≡ judged (room_checks T.rows list scratch) → u ≡ verdict mask T list scratch
+  pub verdict-room : v ≡ sound → {u : Verdict} → u ≡ judged (room_checks T.rows list scratch) → u ≡ verdict mask T list scratch
   unfolding verdict
   verdict-room h g = table-then T (mask_rule mask T.events ∷ []) l e h (room_checks T.rows list scratch) g
 
@@ -53,7 +54,7 @@ pub record Roomy (T : Table) (list scratch : ℕ) : Type 0 where
   pub scratch_fits : needed T.rows ≤ scratch
 
 -- Mark bytes are bytes, as the code's types say.
-pub fine-roomy : (mask : ℕ) (T : Table) (list scratch : ℕ) → ((i : ℕ) → get_or T.marks i 0 < 256) → verdict mask T list scratch ≡ Fine → Roomy T list scratch
+pub fine-roomy : (mask : ℕ) (T : Table) (list scratch : ℕ) → ((i : ℕ) → get_or T.marks i 0 < 256) → verdict mask T list scratch ≡ sound → Roomy T list scratch
 unfolding verdict
 fine-roomy mask T list scratch bytes e =
     let more = mask_rule mask T.events ∷ room_checks T.rows list scratch in
@@ -71,5 +72,5 @@ unfolding verdict
 by_mask mask T list scratch r = valid_masked mask T r.valid (room_checks T.rows list scratch) (all-fits T.rows list scratch r.scratch_fits r.list_fits)
 
 -- So what has no bit that belongs to no event is never refused.
-pub accepts : (mask : ℕ) (T : Table) (list scratch : ℕ) → Roomy T list scratch → spare_bit_set mask T.events ≡ false → verdict mask T list scratch ≡ Fine
+pub accepts : (mask : ℕ) (T : Table) (list scratch : ℕ) → Roomy T list scratch → spare_bit_set mask T.events ≡ false → verdict mask T list scratch ≡ sound
 accepts mask T list scratch r e = by_mask mask T list scratch r ∙ rw e

@@ -1,8 +1,8 @@
 -- Which rules are judged before a sheet is made, in which order.
 use Rattle.std.specs.Prelude.{List, [], ◌∷◌, ◌++◌, ℕ, ◌+◌, ◌*◌, ltb}
 use Rattle.tables.specs.Table.{Table}
-use Rattle.rules.specs.Rules.{rule, judged, winch, room_rule, masked_checks}
-use Rattle.rules.specs.declared.Verdict.{Verdict}
+use Rattle.rules.specs.Rules.{Verdict, rule, judged, winch, room_rule, masked_checks}
+use Rattle.rules.specs.declared.Rule.TheVariants.{List as ListRoom}
 use Rattle.scratch.specs.Scratch.{scratch_cells}
 
 -- How many offsets there are from 0 to 2 × rows.
@@ -11,7 +11,7 @@ entries rows = 2 * rows + 1
 
 -- 13: "the lent list has fewer than 2 × rows + 1 entries".
 abbrev pub list_rule : ℕ → ℕ → Verdict
-list_rule rows list = rule 13 (ltb list (entries rows)) 0
+list_rule rows list = rule ListRoom (ltb list (entries rows)) 0
 
 -- Rule 7 for the scratch, and 13.
 abbrev pub room_checks : ℕ → ℕ → ℕ → List Verdict

@@ -14,10 +14,8 @@ fn put_entries(out: &mut [u8], at: usize, list: &[u16]) -> usize
         Puts out.old at (joined (length l) (λ k. pair_line k (get_or l k 0))) out.new result }
 {
     let mut next = at;
-    let mut k = 0;
-    while k < list.len() {
-        next = put_pair(out, next, k, list[k] as usize);
-        k += 1;
+    for (k, count) in list.iter().enumerate() {
+        next = put_pair(out, next, k, *count as usize);
     }
     next
 }
@@ -35,11 +33,7 @@ fn put_none(out: &mut [u8], at: usize, count: u16) -> usize
 fn last(list: &[u16]) -> u16
     ensures { let l = list.now in result ≡ get_or l (length l - 1) 0 }
 {
-    let n = list.len();
-    if n == 0 {
-        return 0;
-    }
-    list[n - 1]
+    list.last().copied().unwrap_or(0)
 }
 
 // Writes all lines. The last offset's count is also that for none.

@@ -9,8 +9,8 @@ ghost use Rattle.signatures.specs.Signatures.{class_at, mixed_at, key_of, Says, 
 fn class_of(n: u16, m: u16, cells: &[u16], scratch: &[u16], q: u16, a: u16) -> u16
     ensures { result ≡ class_at n m cells.now scratch.now q a }
 {
-    let target = scratch::cell(cells, (q as usize) * (m as usize) + (a as usize));
-    scratch::cell(scratch, 2 * (n as usize) + rules::wide(target))
+    let target = scratch::target(cells, m, q, a);
+    scratch::cell(scratch, 2 * n as usize + target as usize)
 }
 
 // A key with one event more of row q; idle events leave it.
@@ -21,18 +21,17 @@ fn mix(mask: u32, n: u16, m: u16, cells: &[u16], scratch: &[u16], q: u16, a: u16
     if weights::weight(mask, a) != 1 {
         return x;
     }
-    (x + rules::wide(class_of(n, m, cells, scratch, q, a)) + 1) * 739982445 % 4294967296
+    (x + class_of(n, m, cells, scratch, q, a) as usize + 1) * 739982445 % 4294967296
 }
 
 // A number that rows of one signature share.
+#[tactic(auto, unfolding(crate::specs::Signatures::mixed_to))]
 pub fn key_of(mask: u32, n: u16, m: u16, cells: &[u16], scratch: &[u16], q: u16) -> u16
     ensures { result ≡ key_of mask n m cells.now scratch.now q }
 {
     let mut x = 0;
-    let mut a = 0;
-    while a < m {
+    for a in 0..m {
         x = mix(mask, n, m, cells, scratch, q, a, x);
-        a += 1;
     }
     (x / 65536) as u16
 }
@@ -50,22 +49,18 @@ fn same_at(
 ) -> bool
     ensures { Tested result (Says mask n m cells.now scratch.now q p a) }
 {
-    if weights::weight(mask, a) != 1 {
-        return true;
-    }
-    class_of(n, m, cells, scratch, q, a) == class_of(n, m, cells, scratch, p, a)
+    weights::weight(mask, a) != 1
+        || class_of(n, m, cells, scratch, q, a) == class_of(n, m, cells, scratch, p, a)
 }
 
 // Whether rows q and p have one signature.
 pub fn same(mask: u32, n: u16, m: u16, cells: &[u16], scratch: &[u16], q: u16, p: u16) -> bool
     ensures { Tested result (Signed mask n m cells.now scratch.now q p) }
 {
-    let mut a = 0;
-    while a < m {
+    for a in 0..m {
         if !same_at(mask, n, m, cells, scratch, q, p, a) {
             return false;
         }
-        a += 1;
     }
     true
 }
@@ -74,13 +69,11 @@ pub fn same(mask: u32, n: u16, m: u16, cells: &[u16], scratch: &[u16], q: u16, p
 pub fn changed(n: u16, m: u16, cells: &[u16], scratch: &[u16], q: u16, last: usize) -> bool
     ensures { Tested result (Changed n m cells.now scratch.now last q) }
 {
-    let mut a = 0;
-    while a < m {
-        let target = scratch::cell(cells, (q as usize) * (m as usize) + (a as usize));
-        if rules::wide(scratch::cell(scratch, 5 * (n as usize) + rules::wide(target))) == last {
+    for a in 0..m {
+        let target = scratch::target(cells, m, q, a);
+        if scratch::cell(scratch, 5 * n as usize + target as usize) as usize == last {
             return true;
         }
-        a += 1;
     }
     false
 }

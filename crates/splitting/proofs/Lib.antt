@@ -1,4 +1,3 @@
 pub mod Frames
 pub mod Counts
 pub mod Splitting
-pub mod Turns

@@ -5,11 +5,12 @@ ghost use Rattle.scratch.specs.Tests.{Tested};
 ghost use Rattle.splitting.specs.Places.{nxt_at, slot_of, Canon, Room, Ready, Turning, Turn, Split};
 
 // The slot of a class and a key in a table. Where the size is a power of 2 all slots can be taken.
-fn slot(c: usize, h: usize, size: usize) -> usize
-    requires { (c < 65536) × (h < 65536) × (0 < size) }
+#[tactic(auto, using(crate::proofs::Splitting::slot_below), unfolding(crate::specs::Places::slot_of))]
+fn slot(c: u16, h: u16, size: usize) -> usize
+    requires { 0 < size }
     ensures { (result ≡ slot_of c h size) × (result < size) }
 {
-    (((h * 65536 + c) * 2654435769) / 65536) & (size - 1)
+    ((h as usize * 65536 + c as usize) * 2654435769 / 65536) & (size - 1)
 }
 
 // One place's turn: where it has another key than its leader, it goes to the place in the slot of its class and key, or leads and takes that slot.
@@ -19,24 +20,21 @@ fn split_one(scratch: &mut [u16], n: usize, i: usize, size: usize) -> bool
 {
     let c = scratch[4 * n + i];
     let h = scratch[6 * n + i];
-    if h == scratch[6 * n + rules::wide(c)] {
+    if h == scratch[6 * n + c as usize] {
         return false;
     }
-    let at = 9 * n + slot(rules::wide(c), rules::wide(h), size);
-    let x = rules::wide(scratch[at]);
+    let at = 9 * n + slot(c, h, size);
+    let x = scratch[at];
     if x == 0 {
         scratch[at] = (i + 1) as u16;
         scratch[5 * n + i] = c;
         scratch[4 * n + i] = i as u16;
         return true;
     }
-    if scratch[5 * n + (x - 1)] != c {
-        return false;
+    let y = x - 1;
+    if scratch[5 * n + y as usize] == c && scratch[6 * n + y as usize] == h {
+        scratch[4 * n + i] = y;
     }
-    if scratch[6 * n + (x - 1)] != h {
-        return false;
-    }
-    scratch[4 * n + i] = (x - 1) as u16;
     false
 }
 
@@ -47,11 +45,8 @@ fn split_all(scratch: &mut [u16], n: usize, to: usize, size: usize) -> usize
 {
     scratch::clear(scratch, 9 * n, 9 * n + size);
     let mut made = 0;
-    let mut i = 0;
-    while i < to {
-        let hit = split_one(scratch, n, i, size);
-        i += 1;
-        if hit {
+    for i in 0..to {
+        if split_one(scratch, n, i, size) {
             made += 1;
         }
     }
@@ -62,19 +57,7 @@ fn split_all(scratch: &mut [u16], n: usize, to: usize, size: usize) -> usize
 fn roomy(scratch: &[u16], n: usize, to: usize, size: usize) -> bool
     ensures { Tested result (Room n to size scratch.now) }
 {
-    if 1024 < n {
-        return false;
-    }
-    if scratch.len() < 12 * n {
-        return false;
-    }
-    if n < to {
-        return false;
-    }
-    if size == 0 {
-        return false;
-    }
-    size <= 3 * n
+    n <= 1024 && 12 * n <= scratch.len() && to <= n && 0 < size && size <= 3 * n
 }
 
 // Whether the leader of each place leads, and is no later place.
@@ -82,16 +65,11 @@ fn canonical(scratch: &[u16], n: usize, to: usize) -> bool
     requires { (n ≤ 1024) × (12 * n ≤ length scratch.now) × (to ≤ n) }
     ensures { Tested result (Canon to (nxt_at n scratch.now)) }
 {
-    let mut i = 0;
-    while i < to {
-        let l = rules::wide(scratch[4 * n + i]);
-        if i < l {
+    for i in 0..to {
+        let l = scratch[4 * n + i] as usize;
+        if i < l || scratch[4 * n + l] as usize != l {
             return false;
         }
-        if rules::wide(scratch[4 * n + l]) != l {
-            return false;
-        }
-        i += 1;
     }
     true
 }
@@ -100,10 +78,7 @@ fn canonical(scratch: &[u16], n: usize, to: usize) -> bool
 pub fn split(scratch: &mut [u16], n: usize, to: usize, size: usize) -> usize
     ensures { let s = scratch.old in let t = scratch.new in (Ready n to size s → Split n to s t result) × ((Ready n to size s → ⊥) → (t ≡ s) × (result ≡ 0)) }
 {
-    if !roomy(scratch, n, to, size) {
-        return 0;
-    }
-    if !canonical(scratch, n, to) {
+    if !roomy(scratch, n, to, size) || !canonical(scratch, n, to) {
         return 0;
     }
     split_all(scratch, n, to, size)

@@ -1,16 +1,14 @@
 -- "a signed byte, target minus own row": steps from row to row, and the bytes that hold them.
-use Rattle.std.specs.Prelude.{Bool, true, false, cond, ◌||◌, ℕ, ◌-◌, ltb, ℤ, pos, negsuc, ◌+ℤ◌, ◌-ℤ◌}
+use Rattle.std.specs.Prelude.{Bool, true, false, cond, ◌||◌, ℕ, ◌-◌, ltb, Option, Some, None, ℤ, pos, negsuc, ◌+ℤ◌, ◌-ℤ◌}
 use Rattle.std.specs.Int.Signed.{lt_z}
-use Rattle.steps.specs.declared.Step.{Step}
-use Rattle.steps.specs.declared.Step.TheVariants.{Small, Far}
 
 -- A step outside −128 to 127 is too far (`negsuc k` is −1 − k).
-abbrev pub small : Bool → ℤ → Step
-small true d = Far
-small false d = Small d
+abbrev pub small : Bool → ℤ → Option ℤ
+small true d = None
+small false d = Some d
 
 -- The step from a row to its target: target minus own row.
-abbrev pub step_of : ℕ → ℕ → Step
+abbrev pub step_of : ℕ → ℕ → Option ℤ
 step_of row target = let d = pos target -ℤ pos row in small (lt_z d (negsuc 127) || lt_z (pos 127) d) d
 
 -- The byte of a step and the step of a byte: 0 to 127 are themselves, 128 to 255 are −128 to −1.

@@ -19,10 +19,8 @@ pub fn put_text(out: &mut [u8], at: usize, words: &[u8]) -> usize
     ensures { Puts out.old at words.now out.new result }
 {
     let mut next = at;
-    let mut i = 0;
-    while i < words.len() {
-        next = put_byte(out, next, words[i]);
-        i += 1;
+    for byte in words {
+        next = put_byte(out, next, *byte);
     }
     next
 }

@@ -16,6 +16,6 @@ pub fn needed(way: Way, rows: u16) -> usize
 {
     match way {
         Way::First => pairs::needed(rows),
-        Way::Second => 12 * rules::wide(rows),
+        Way::Second => 12 * rows as usize,
     }
 }

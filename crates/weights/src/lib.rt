@@ -12,25 +12,17 @@ pub fn weight(mask: u32, event: u16) -> u16
 }
 
 // Whether a bit at or above the event count is set.
+#[tactic(auto, using(crate::proofs::Counts::no_spare), unfolding(crate::specs::Weights::spare_bit_set))]
 pub fn spare_bit(mask: u32, events: usize) -> bool
     ensures { result ≡ spare_bit_set mask events }
 {
-    if 31 < events {
-        return false;
-    }
-    (mask >> events) != 0
-}
-
-// u32 to usize.
-fn wide(x: u32) -> usize
-    ensures { result ≡ x }
-{
-    x as usize
+    events < 32 && mask >> events != 0
 }
 
 // How many of the 32 events that a table can have count: the ones of the mask.
+#[tactic(auto, using(crate::proofs::Counts::ones_counted))]
 pub fn counted(mask: u32) -> usize
     ensures { result ≡ counted_of mask 32 }
 {
-    wide(u32::count_ones(mask))
+    mask.count_ones() as usize
 }

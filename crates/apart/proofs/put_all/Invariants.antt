@@ -1,10 +1,6 @@
-use Prim.Native.Nat.{◌-◌, ◌≤◌}
 use Rattle.quick_folding.specs.Parts.{Wrote}
 use Rattle.apart.specs.Steps.{apart_at}
 use Rattle.apart.proofs.put_all.Given as goal
 
 abbrev pub invariant-loop-q : goal.invariant-loop-q
-invariant-loop-q l = (l.q ≤ l.rows) × Wrote l.at l.q (λ p. apart_at l.rows l.initial.scratch p l.rows) l.initial.scratch l.scratch
-
-abbrev pub decreases-loop-q : goal.decreases-loop-q
-decreases-loop-q l = l.rows - l.q
+invariant-loop-q l = Wrote l.at l.q (λ p. apart_at l.rows l.initial.scratch p l.rows) l.initial.scratch l.scratch

@@ -1,10 +1,7 @@
-use Prim.Native.Nat.{◌-◌, ◌≤◌, ◌*◌, ◌+◌}
+use Prim.Native.Nat.{◌*◌, ◌+◌}
 use lib.ListN.{get_or}
 use Rattle.splitting.specs.Places.{Filled, jump_at}
 use Rattle.classes.proofs.by_jump.Given as goal
 
 abbrev pub invariant-loop-i : goal.invariant-loop-i
-invariant-loop-i l = (l.i ≤ l.to) × Filled l.n (6 * l.n) l.i (λ j. get_or l.initial.scratch (l.from + jump_at l.n l.initial.scratch j) 0) l.initial.scratch l.scratch
-
-abbrev pub decreases-loop-i : goal.decreases-loop-i
-decreases-loop-i l = l.to - l.i
+invariant-loop-i l = Filled l.n (6 * l.n) l.i (λ j. get_or l.initial.scratch (l.from + jump_at l.n l.initial.scratch j) 0) l.initial.scratch l.scratch

@@ -5,4 +5,4 @@ use Rattle.depths.proofs.search.Goals as goal
 pub returns : goal.returns
 returns c marks = let a = c.args in
     let p = c.requires in
-    found_by_lem a.mask (table_of a.rows a.events a.start a.cells.now marks) p.0 p.1 c.wide.ensures c.wide-2.ensures c.clear.ensures c.put.ensures c.settle.ensures
+    found_by_lem a.mask (table_of a.rows a.events a.start a.cells.now marks) p.0 p.1 c.clear.ensures c.put.ensures c.settle.ensures

@@ -1,6 +1,6 @@
 use mathlib.Core.Path.{ap, ◌∙◌}
 use Rattle.images.specs.declared.Form.TheVariants.{Radio}
-use Rattle.image_sections.specs.declared.Read.{Read}
+use Rattle.image_sections.specs.Read.{Read}
 use Rattle.image_reader.specs.Read.{cells_as, marks_in}
 use Rattle.answers.specs.Answers.{of_read}
 use Rattle.exports.proofs.gelfost_read_radio.Goals as goal

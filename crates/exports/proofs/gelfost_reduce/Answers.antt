@@ -1,8 +1,8 @@
 use mathlib.Core.Path.{ap, ◌∙◌}
-use Rattle.answers.specs.Answers.{of_answer}
+use Rattle.answers.specs.Answers.{of_count}
 use Rattle.exports.proofs.Kept.{reduce_kept}
 use Rattle.exports.proofs.gelfost_reduce.Goals as goal
 
 pub returns : goal.returns
 returns c = let w = reduce_kept _ _ _ _ _ _ _ _ _ _ _ _ _ c.offset_of.ensures c.reduce_table-found.ensures in
-    (c.put_answer.ensures ∙ ap of_answer w.0, w.1)
+    (c.put_count.ensures ∙ ap of_count w.0, w.1)

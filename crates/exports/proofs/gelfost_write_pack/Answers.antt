@@ -1,7 +1,7 @@
 use mathlib.Core.Path.{ap, ◌∙◌}
-use Rattle.answers.specs.Answers.{of_written}
+use Rattle.answers.specs.Answers.{of_count}
 use Rattle.exports.proofs.gelfost_write_pack.Goals as goal
 
 pub returns : goal.returns
 returns c = let w = c.write_pack-written.ensures in
-    (w.1, c.put_written.ensures ∙ ap of_written w.0)
+    (w.1, c.put_count.ensures ∙ ap of_count w.0)

@@ -1,4 +1,4 @@
-use Prim.Native.Nat.{ℕ, ◌-◌, ◌≤◌, ◌<◌}
+use Prim.Native.Nat.{ℕ, ◌<◌}
 use Rattle.pairs.specs.Pairs.{pair_at}
 use Rattle.scratch.specs.Scratch.{machine_by}
 use Rattle.distances.specs.Search.{events_by}
@@ -6,7 +6,4 @@ use Rattle.first_events.specs.Passes.{Ready}
 use Rattle.first_events.proofs.first_ready.Given as goal
 
 abbrev pub invariant-loop-event : goal.invariant-loop-event
-invariant-loop-event l = (l.event ≤ l.events) × ((a : ℕ) → a < l.event → Ready (events_by l.mask l.events) (machine_by l.rows l.events l.cells l.marks) (pair_at l.scratch) l.distance l.q l.p a → ⊥)
-
-abbrev pub decreases-loop-event : goal.decreases-loop-event
-decreases-loop-event l = l.events - l.event
+invariant-loop-event l = (a : ℕ) → a < l.event → Ready (events_by l.mask l.events) (machine_by l.rows l.events l.cells l.marks) (pair_at l.scratch) l.distance l.q l.p a → ⊥

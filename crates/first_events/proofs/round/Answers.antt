@@ -3,12 +3,6 @@ use Rattle.rules.specs.Rules.{table_of}
 use Rattle.first_events.proofs.Whole.{round-none, round-some}
 use Rattle.first_events.proofs.round.Goals as goal
 
-pub sweep-requires : goal.sweep-requires
-sweep-requires c = c.requires.given.few_events
-
-pub sweep-requires-then-sweep : goal.sweep-requires-then-sweep
-sweep-requires-then-sweep c = c.requires.given.few_events
-
 pub returns-then-sweep : goal.returns-then-sweep
 returns-then-sweep c = let a = c.args in
     round-some c.requires.given (mask_light a.mask (table_of a.rows a.events 0 a.cells.now a.marks.now)) c.requires.most_bound c.sweep.ensures c.sweep-then-sweep.ensures

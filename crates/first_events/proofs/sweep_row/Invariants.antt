@@ -1,4 +1,4 @@
-use Prim.Native.Nat.{◌+◌, ◌-◌, ◌≤◌}
+use Prim.Native.Nat.{◌+◌}
 use Rattle.pairs.specs.Pairs.{triangle}
 use Rattle.scratch.specs.Scratch.{machine_by}
 use Rattle.distances.specs.Search.{events_by}
@@ -6,7 +6,4 @@ use Rattle.first_events.specs.Passes.{Swept}
 use Rattle.first_events.proofs.sweep_row.Given as goal
 
 abbrev pub invariant-loop-p : goal.invariant-loop-p
-invariant-loop-p l = (l.p ≤ l.q) × Swept l.pass (events_by l.mask l.events) (machine_by l.rows l.events l.cells l.marks) (triangle l.q) (triangle l.q + l.p) l.initial.scratch l.scratch l.changed
-
-abbrev pub decreases-loop-p : goal.decreases-loop-p
-decreases-loop-p l = l.q - l.p
+invariant-loop-p l = Swept l.pass (events_by l.mask l.events) (machine_by l.rows l.events l.cells l.marks) (triangle l.q) (triangle l.q + l.p) l.initial.scratch l.scratch l.changed

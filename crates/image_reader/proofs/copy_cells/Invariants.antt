@@ -1,12 +1,8 @@
 use mathlib.Core.Path.{◌≡◌}
-use Prim.Native.Nat.{◌-◌, ◌≤◌}
-use lib.ListN.{length, take}
+use lib.ListN.{take}
 use Rattle.tables.specs.Lists.{over}
 use Rattle.images.specs.Image.{cells_at}
 use Rattle.image_reader.proofs.copy_cells.Given as goal
 
 abbrev pub invariant-loop-i : goal.invariant-loop-i
-invariant-loop-i l = (l.i ≤ l.count) × (l.cells ≡ over l.initial.cells 0 (take l.i (cells_at l.form l.image l.events l.at l.count))) × (length l.cells ≡ length l.initial.cells)
-
-abbrev pub decreases-loop-i : goal.decreases-loop-i
-decreases-loop-i l = l.count - l.i
+invariant-loop-i l = l.cells ≡ over l.initial.cells 0 (take l.i (cells_at l.form l.image l.events l.at l.count))

@@ -1,31 +1,14 @@
-use mathlib.Core.Path.{◌≡◌, refl, sym, ◌∙◌}
-use Prim.Native.Nat.{◌+◌}
-use native.Mathlib.Numerals.{add-one}
+use mathlib.Core.Path.{◌≡◌}
+use Prim.Native.Nat.{◌+◌, ◌-◌}
 use native.Mathlib.Omega.{arith}
-use lib.ListN.{length, get_or, take, drop, length-set}
-use Rattle.tables.proofs.Over.{over_none, over-next, over-all, part_length, part_at}
+use lib.ListN.{length, take, drop}
+use Rattle.tables.specs.Lists.{over}
+use Rattle.tables.proofs.Over.{part_length}
 use Rattle.image_reader.proofs.copy_marks.Goals as goal
 
-pub loop-i-init : goal.loop-i-init
-loop-i-init c = (omega arith, sym (over_none c.args.marks.now 0), refl)
-
-pub loop-i-preserved : goal.loop-i-preserved
-loop-i-preserved c = let a = c.args in
-    let l = c.loop-i in
-    let s = take a.count (drop a.at a.image.now) in
-    let n : length s ≡ a.count = part_length a.image.now a.at a.count (omega arith) in
-    let x : get_or s l.i 0 ≡ get_or a.image.now (a.at + l.i) 0 = part_at a.image.now a.at a.count l.i (omega arith) in
-    let z : 0 + l.i ≡ l.i = omega arith in (
-      omega arith,
-      rw (add-one, l.invariant.1, ← x) (rw z at (over-next a.marks.now 0 s l.i (omega arith) (omega arith))),
-      length-set l.marks l.i (get_or a.image.now (a.at + l.i) 0) ∙ l.invariant.2,
-    )
-
-pub shape_of-marks : goal.shape_of-marks
-shape_of-marks c = c.loop-i.invariant.2
-
 pub returns : goal.returns
+unfolding over
 returns c = let a = c.args in
-    let l = c.loop-i in
-    let s = take a.count (drop a.at a.image.now) in
-    l.invariant.1 ∙ over-all a.marks.now 0 s l.i (omega (arith, part_length a.image.now a.at a.count (omega arith)))
+    let all : a.at + a.count - a.at ≡ a.count = omega arith in
+    let long : 0 + length (take a.count (drop a.at a.image.now)) ≡ a.count = omega (arith, part_length a.image.now a.at a.count (omega arith)) in
+    rw (c.copy_from_slice.ensures.after, all, long)

@@ -2,8 +2,7 @@ use mathlib.Core.Path.{ap, ◌∙◌}
 use lib.ListN.{length}
 use Rattle.rules.specs.Rules.{winch}
 use Rattle.rules.specs.declared.Limits.{Limits}
-use Rattle.image_sections.specs.declared.Read.{Read}
-use Rattle.image_sections.specs.Read.{at_most}
+use Rattle.image_sections.specs.Read.{Read, at_most}
 use Rattle.image_sections.proofs.Order.{no_twelve}
 use Rattle.image_reader.specs.Read.{roomed, read_in_form}
 use Rattle.image_reader.proofs.read_form.Goals as goal

@@ -1,16 +1,18 @@
 use native.Mathlib.Omega.{arith}
-use Rattle.rules.specs.Rules.{table_of}
+use Rattle.std.proofs.lemmas.Result.{err_from_is_err_and}
+use Rattle.rules.specs.Rules.{lent}
 use Rattle.last_run_rules.proofs.Order.{shape_refused, no_row, then-all}
 use Rattle.last_run_rules.proofs.check.Goals as goal
 
-pub returns-then-rows-row : goal.returns-then-rows-row
-returns-then-rows-row c = let a = c.args in
-    no_row a.mask (table_of a.rows a.events a.start a.cells.now a.marks.now) a.row a.room c.winch.ensures c.check_shape.ensures c.in-Fine.is c.if-rows-row.true
+pub returns-in_err-check_shape : goal.returns-in_err-check_shape
+returns-in_err-check_shape c = let a = c.args in
+    let p = err_from_is_err_and c.from_residual.result c.from_residual.ensures.1 in
+    rw (p.1, p.2) (shape_refused a.mask (lent a.table) a.row a.room c.winch.ensures c.check_shape.ensures _ c.in_err-check_shape.was)
 
-pub returns-in-Refused : goal.returns-in-Refused
-returns-in-Refused c = let a = c.args in
-    shape_refused a.mask (table_of a.rows a.events a.start a.cells.now a.marks.now) a.row a.room c.winch.ensures c.check_shape.ensures c.in-Refused.number c.in-Refused.place c.in-Refused.is
+pub returns-then-table-row : goal.returns-then-table-row
+returns-then-table-row c = let a = c.args in
+    rw c.at.ensures (no_row a.mask (lent a.table) a.row a.room c.winch.ensures c.check_shape.ensures c.in_ok-check_shape.was c.if-table-row.true)
 
-pub returns-else-rows-row : goal.returns-else-rows-row
-returns-else-rows-row c = let a = c.args in
-    then-all a.mask (table_of a.rows a.events a.start a.cells.now a.marks.now) a.row a.room c.winch.ensures c.check_shape.ensures c.in-Fine.is (omega (arith, c.if-rows-row.false)) c.check_all.ensures
+pub returns : goal.returns
+returns c = let a = c.args in
+    then-all a.mask (lent a.table) a.row a.room c.winch.ensures c.check_shape.ensures c.in_ok-check_shape.was (omega (arith, c.if-table-row.false)) c.check_all.ensures

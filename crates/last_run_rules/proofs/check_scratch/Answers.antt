@@ -1,8 +1,6 @@
 use mathlib.Core.Path.{sym, ap}
 use native.Mathlib.Omega.{arith}
-use Rattle.rules.specs.Rules.{and_then}
-use Rattle.rules.specs.declared.Verdict.{Verdict}
-use Rattle.rules.specs.declared.Verdict.TheVariants.{Fine}
+use Rattle.rules.specs.Rules.{Verdict, sound, and_then}
 use Rattle.rules.proofs.First.{room_broken, room_kept}
 use Rattle.scratch.specs.Scratch.{scratch_cells}
 use Rattle.pairs.proofs.Triangle.{needed-value}
@@ -10,8 +8,8 @@ use Rattle.last_run_rules.proofs.check_scratch.Goals as goal
 
 pub returns-then-room-needed : goal.returns-then-room-needed
 returns-then-room-needed c = let a = c.args in
-    sym (ap (λ (v : Verdict). and_then v Fine) (room_broken (scratch_cells a.rows) a.room (omega (arith, c.if-room-needed.true, c.needed.ensures, needed-value a.rows))))
+    rw c.at.ensures (sym (ap (λ (v : Verdict). and_then v sound) (room_broken (scratch_cells a.rows) a.room (omega (arith, c.if-room-needed.true, c.needed.ensures, needed-value a.rows)))))
 
 pub returns : goal.returns
 returns c = let a = c.args in
-    sym (ap (λ (v : Verdict). and_then v Fine) (room_kept (scratch_cells a.rows) a.room (omega (arith, c.if-room-needed.false, c.needed.ensures, needed-value a.rows))))
+    sym (ap (λ (v : Verdict). and_then v sound) (room_kept (scratch_cells a.rows) a.room (omega (arith, c.if-room-needed.false, c.needed.ensures, needed-value a.rows))))

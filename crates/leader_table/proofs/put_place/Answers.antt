@@ -1,59 +1,29 @@
 use Prim.Native.Nat.{◌+◌, ◌-◌, ◌*◌}
-use mathlib.Core.Path.{◌≡◌, refl, sym, ap, ◌∙◌}
-use lib.ListN.{set, length-set}
-use Rattle.leader_table.specs.Putting.{hash_in, Alike, full, entered, follows, leads}
+use mathlib.Core.Path.{refl, ap}
+use lib.ListN.{set, get_or, length-set}
+use Rattle.leader_table.specs.Putting.{Alike, entered, follows, leads}
 use native.Mathlib.Omega.{arith}
 use Rattle.leader_table.proofs.put_place.Goals as goal
+use Rattle.leader_table.proofs.put_place.Goals.{Else-x-eq0}
 
-pub returns-then-n-at : goal.returns-then-n-at
-returns-then-n-at c =
-    let noted : (let a = c.args in set a.scratch.now (6 * a.n + a.i) c.key_of-key.result ≡ set a.scratch.now (6 * a.n + a.i) (hash_in a.mask a.n a.m a.cells.now a.scratch.now a.i)) = (let a = c.args in ap (set a.scratch.now (6 * a.n + a.i)) c.key_of-key.ensures) in
-    full (noted) (omega arith)
-
-pub bounds-scratch-n-2 : goal.bounds-scratch-n-2
-bounds-scratch-n-2 c = simp length-set (omega (arith, c.requires.0.room, c.if-n-at.false))
-
-pub bounds-scratch-n-then-x-eq0 : goal.bounds-scratch-n-then-x-eq0
-bounds-scratch-n-then-x-eq0 c = simp length-set (omega (arith, c.requires.0.room, c.if-n-at.false))
+-- The place in the cell that was found is like place i.
+like : (c : Else-x-eq0) → let a = c.args in
+    let s = set a.scratch.now (6 * a.n + a.i) c.key_of-key.result in
+    Alike a.mask a.n a.m a.to a.known a.last a.cells.now s a.i (get_or s (9 * a.n + c.in-Some.at) 0 - 1)
+like c = c.in-Some.ensures.1.like _ (omega arith)
 
 pub returns-then-x-eq0 : goal.returns-then-x-eq0
-returns-then-x-eq0 c =
-    let noted : (let a = c.args in set a.scratch.now (6 * a.n + a.i) c.key_of-key.result ≡ set a.scratch.now (6 * a.n + a.i) (hash_in a.mask a.n a.m a.cells.now a.scratch.now a.i)) = (let a = c.args in ap (set a.scratch.now (6 * a.n + a.i)) c.key_of-key.ensures) in
-    let a = c.args in
-    entered (set a.scratch.now (6 * a.n + a.i) c.key_of-key.result) c.find-at.result (noted) (omega arith) (c.find-at.ensures (omega arith)) (sym c.wide-x.ensures ∙ c.if-x-eq0.true) refl refl
+returns-then-x-eq0 c = let a = c.args in
+    entered _ _ (ap (set a.scratch.now (6 * a.n + a.i)) c.key_of-key.ensures) c.in-Some.ensures.0 c.in-Some.ensures.1 c.if-x-eq0.true refl refl
 
-pub bounds-scratch-n-then-x-i : goal.bounds-scratch-n-then-x-i
-bounds-scratch-n-then-x-i c = simp length-set (omega (arith, c.requires.0.room, c.requires.0.inside, c.requires.1))
-
-pub returns-then-x-i : goal.returns-then-x-i
-returns-then-x-i c =
-    let noted : (let a = c.args in set a.scratch.now (6 * a.n + a.i) c.key_of-key.result ≡ set a.scratch.now (6 * a.n + a.i) (hash_in a.mask a.n a.m a.cells.now a.scratch.now a.i)) = (let a = c.args in ap (set a.scratch.now (6 * a.n + a.i)) c.key_of-key.ensures) in
-    let a = c.args in
-    follows (set a.scratch.now (6 * a.n + a.i) c.key_of-key.result) (c.wide-x.result - 1) (noted)
-    ((c.find-at.ensures (omega arith)).like (c.wide-x.result - 1) (sym c.wide-x.ensures ∙ omega arith)) c.if-x-i.true refl refl
-
-pub overflow_add-scratch-2 : goal.overflow_add-scratch-2
-overflow_add-scratch-2 c =
-    let like : (let a = c.args in Alike a.mask a.n a.m a.to a.known a.last a.cells.now (set a.scratch.now (6 * a.n + a.i) c.key_of-key.result) a.i (c.wide-x.result - 1)) = ((c.find-at.ensures (omega arith)).like (c.wide-x.result - 1) (sym c.wide-x.ensures ∙ omega arith)) in
-    omega (arith, c.requires.0.few, c.requires.0.inside, (like).inside)
-
-pub offset_bounds-scratch-n-4 : goal.offset_bounds-scratch-n-4
-offset_bounds-scratch-n-4 c =
-    let like : (let a = c.args in Alike a.mask a.n a.m a.to a.known a.last a.cells.now (set a.scratch.now (6 * a.n + a.i) c.key_of-key.result) a.i (c.wide-x.result - 1)) = ((c.find-at.ensures (omega arith)).like (c.wide-x.result - 1) (sym c.wide-x.ensures ∙ omega arith)) in
-    omega (arith, c.requires.0.few, c.requires.0.inside, (like).inside)
+pub returns-then-y-i : goal.returns-then-y-i
+returns-then-y-i c = let a = c.args in
+    follows _ _ (ap (set a.scratch.now (6 * a.n + a.i)) c.key_of-key.ensures) (like (goal.at.returns-then-y-i c).Else-x-eq0) c.if-y-i.true refl refl
 
 pub bounds-scratch-n-3 : goal.bounds-scratch-n-3
-bounds-scratch-n-3 c =
-    let like : (let a = c.args in Alike a.mask a.n a.m a.to a.known a.last a.cells.now (set a.scratch.now (6 * a.n + a.i) c.key_of-key.result) a.i (c.wide-x.result - 1)) = ((c.find-at.ensures (omega arith)).like (c.wide-x.result - 1) (sym c.wide-x.ensures ∙ omega arith)) in
-    simp length-set (omega (arith, c.requires.0.room, c.requires.0.inside, (like).inside))
-
-pub bounds-scratch-n-4 : goal.bounds-scratch-n-4
-bounds-scratch-n-4 c = simp length-set (omega (arith, c.requires.0.room, c.if-n-at.false))
+bounds-scratch-n-3 c = simp length-set (omega (arith, c.requires.0.room, c.requires.0.inside, (like (goal.at.bounds-scratch-n-3 c).Else-x-eq0).inside))
 
 pub returns : goal.returns
-returns c =
-    let noted : (let a = c.args in set a.scratch.now (6 * a.n + a.i) c.key_of-key.result ≡ set a.scratch.now (6 * a.n + a.i) (hash_in a.mask a.n a.m a.cells.now a.scratch.now a.i)) = (let a = c.args in ap (set a.scratch.now (6 * a.n + a.i)) c.key_of-key.ensures) in
-    let like : (let a = c.args in Alike a.mask a.n a.m a.to a.known a.last a.cells.now (set a.scratch.now (6 * a.n + a.i) c.key_of-key.result) a.i (c.wide-x.result - 1)) = ((c.find-at.ensures (omega arith)).like (c.wide-x.result - 1) (sym c.wide-x.ensures ∙ omega arith)) in
-    let a = c.args in
-    leads (set a.scratch.now (6 * a.n + a.i) c.key_of-key.result) c.find-at.result (c.wide-x.result - 1) (noted) (omega arith) (c.find-at.ensures (omega arith))
-    (sym c.wide-x.ensures ∙ omega arith) (like) (omega (arith, (like).other)) refl refl
+returns c = let a = c.args in
+    let h = like (goal.at.returns c).Else-x-eq0 in
+    leads _ _ _ (ap (set a.scratch.now (6 * a.n + a.i)) c.key_of-key.ensures) c.in-Some.ensures.0 c.in-Some.ensures.1 (omega arith) h (omega (arith, h.other)) refl refl

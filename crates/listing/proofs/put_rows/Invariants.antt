@@ -1,12 +1,6 @@
-use mathlib.Core.Path.{◌≡◌}
-use Prim.Native.Nat.{◌-◌, ◌≤◌}
-use lib.ListN.{length}
 use Rattle.text.specs.Text.{joined, Puts}
 use Rattle.listing.specs.Listing.{row_line}
 use Rattle.listing.proofs.put_rows.Given as goal
 
 abbrev pub invariant-loop-row : goal.invariant-loop-row
-invariant-loop-row l = (l.row ≤ l.rows) × Puts l.initial.out l.at (joined l.row (row_line l.events l.cells l.marks)) l.out l.next × (length l.out ≡ length l.initial.out)
-
-abbrev pub decreases-loop-row : goal.decreases-loop-row
-decreases-loop-row l = l.rows - l.row
+invariant-loop-row l = Puts l.initial.out l.at (joined l.row (row_line l.events l.cells l.marks)) l.out l.next

@@ -13,21 +13,20 @@ overflow_mul-bits c = omega (arith, c.mark_bytes-bits.ensures)
 
 pub loop-i-init : goal.loop-i-init
 loop-i-init c = let a = c.args in
-    (omega arith, ap (λ (n : ℕ). 8 * n) c.mark_bytes-bits.ensures, state-first a.seed, marking_none (mark_at a.seed a.rows) (mark_small a.seed a.rows) a.marks.now (λ j. omega (arith, c.slice_known-1.given j)))
+    (state-first a.seed, marking_none (mark_at a.seed a.rows) (mark_small a.seed a.rows) a.marks.now (λ j. omega (arith, c.type_inv.marks j)))
 
 pub loop-i-preserved : goal.loop-i-preserved
 loop-i-preserved c = let a = c.args in
     let l = c.loop-i in
     let s = c.step-state in
     let m = c.mark in
-    let p = c.put_mark in
-    (omega arith, l.invariant.1, state-next a.seed l.i _ _ l.invariant.2 s.ensures, marking_next (mark_at a.seed a.rows) (mark_small a.seed a.rows) a.marks.now l.marks l.i l.invariant.3 (omega (arith, l.invariant.1, c.requires.1)) m.result (mark_is a.seed a.rows l.i l.invariant.2 s.ensures m.ensures) p.new.marks p.ensures)
-
-pub shape_of-marks : goal.shape_of-marks
-shape_of-marks c = c.loop-i.invariant.3.same
+    let p = c.put_mark in (
+      state-next a.seed l.i _ _ l.invariant.0 s.ensures,
+      marking_next (mark_at a.seed a.rows) (mark_small a.seed a.rows) a.marks.now l.marks l.i l.invariant.1 (omega (arith, c.mark_bytes-bits.ensures)) m.result (mark_is a.seed a.rows l.i l.invariant.0 s.ensures m.ensures) p.new.marks p.ensures,
+    )
 
 pub returns : goal.returns
 returns c = let a = c.args in
     let l = c.loop-i in
-    marking_all (mark_at a.seed a.rows) (mark_small a.seed a.rows) a.rows (mark_none a.seed a.rows) a.marks.now l.marks l.i l.invariant.3 (λ j. omega (arith, c.slice_known-1.given j)) c.requires.1 (omega (arith, l.invariant.1))
+    marking_all (mark_at a.seed a.rows) (mark_small a.seed a.rows) a.rows (mark_none a.seed a.rows) a.marks.now l.marks _ l.invariant.1 (λ j. omega (arith, c.slice_known-1.given j)) c.requires.1 (omega (arith, c.mark_bytes-bits.ensures))
     ∙ ap (λ l. over a.marks.now 0 (pack l)) (marks_same a.seed a.rows)

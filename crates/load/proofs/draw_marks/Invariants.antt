@@ -7,7 +7,4 @@ use Rattle.load.proofs.Drawing.{mark_at, mark_small}
 use Rattle.load.proofs.draw_marks.Given as goal
 
 abbrev pub invariant-loop-i : goal.invariant-loop-i
-invariant-loop-i l = (l.i ≤ l.bits) × (l.bits ≡ 8 * mark_byte_count l.rows) × (l.state ≡ state l.seed l.i) × Marking (mark_at l.seed l.rows) (mark_small l.seed l.rows) l.initial.marks l.marks l.i
-
-abbrev pub decreases-loop-i : goal.decreases-loop-i
-decreases-loop-i l = l.bits - l.i
+invariant-loop-i l = (l.state ≡ state l.seed l.i) × Marking (mark_at l.seed l.rows) (mark_small l.seed l.rows) l.initial.marks l.marks l.i

@@ -21,7 +21,7 @@ returns c = let a = c.args in
     let w = c.walk-length in
     let most = walked_most a.cells.now a.events a.scratch.now a.rows a.row c.into-into.result in
     let run = run_back (replicate 128 0) (omega (arith, c.requires, most, length-replicate {A = ℕ} 128 0)) w.ensures.0 w.ensures.1 in
-    line-loss a.rows a.events a.cells.now a.scratch.now a.row c.into-into.ensures a.out.now a.at c.if-into-row.false run c.distance-far.ensures c.wide.ensures c.put_loss.ensures
+    line-loss a.rows a.events a.cells.now a.scratch.now a.row c.into-into.ensures a.out.now a.at c.if-into-row.false run c.distance-far.ensures c.put_loss.ensures
 
 pub slice_bounds-put_loss-end : goal.slice_bounds-put_loss-end
 slice_bounds-put_loss-end c =

@@ -1,18 +1,13 @@
-use mathlib.Core.List.{[]}
-use Rattle.rules.specs.Rules.{table_of}
-use Rattle.rules.proofs.First.{few_rows}
+use Rattle.std.proofs.lemmas.Result.{err_from_is_err_and}
+use Rattle.rules.specs.Rules.{lent}
 use Rattle.order_rules.proofs.Judged.{first-refused, first_fine}
-use native.Mathlib.Omega.{arith}
 use Rattle.order_rules.proofs.check.Goals as goal
 
-pub overflow_cast-rows : goal.overflow_cast-rows
-overflow_cast-rows c = let a = c.args in
-    record { fits = omega (arith, few_rows (table_of a.rows a.events a.start a.cells.now a.marks.now) [] c.winch.ensures c.check_table.ensures c.in-Fine.is) }
+pub returns-in_err-check_table : goal.returns-in_err-check_table
+returns-in_err-check_table c = let a = c.args in
+    let p = err_from_is_err_and c.from_residual.result c.from_residual.ensures.1 in
+    rw (p.1, p.2) (first-refused (lent a.first) (lent a.second) a.room c.winch.ensures c.check_table.ensures _ c.in_err-check_table.was)
 
-pub returns-in-Refused : goal.returns-in-Refused
-returns-in-Refused c = let a = c.args in
-    first-refused (table_of a.rows a.events a.start a.cells.now a.marks.now) (table_of a.rows2 a.events2 a.start2 a.cells2.now a.marks2.now) a.room c.winch.ensures c.check_table.ensures c.in-Refused.number c.in-Refused.place c.in-Refused.is
-
-pub returns-in-Fine : goal.returns-in-Fine
-returns-in-Fine c = let a = c.args in
-    first_fine (table_of a.rows a.events a.start a.cells.now a.marks.now) (table_of a.rows2 a.events2 a.start2 a.cells2.now a.marks2.now) a.room c.winch.ensures c.check_table.ensures c.in-Fine.is c.check_second.ensures
+pub returns : goal.returns
+returns c = let a = c.args in
+    first_fine (lent a.first) (lent a.second) a.room c.winch.ensures c.check_table.ensures c.in_ok-check_table.was c.check_second.ensures

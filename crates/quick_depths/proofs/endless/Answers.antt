@@ -1,24 +1,14 @@
-use Rattle.quick_depths.proofs.Growth.{grows_none, grows_then, grows_size, grows_space}
-use native.Mathlib.Omega.{arith}
+use Rattle.quick_depths.proofs.Growth.{same_space, grows_then, grows_marked, grows_size}
 use Rattle.quick_depths.proofs.endless.Goals as goal
 
-pub overflow_add-left : goal.overflow_add-left
-overflow_add-left c = omega (arith, c.requires.given.few)
+pub set_endless-requires : goal.set_endless-requires
+set_endless-requires c = (same_space (same_space c.requires (grows_size c.loop.invariant)) c.round.ensures.marked.size, c.round.ensures.whole c.if-not-round.true)
 
-pub loop-left-init : goal.loop-left-init
-loop-left-init c = grows_none c.args.scratch.now
+pub returns-then-not-round : goal.returns-then-not-round
+returns-then-not-round c = grows_then (grows_then c.loop.invariant (grows_marked c.round.ensures.marked)) c.set_endless.ensures
 
-pub one_round-left-requires : goal.one_round-left-requires
-one_round-left-requires c = (grows_space c.loop-left.invariant c.requires, c.loop-left-test.true)
+pub loop-preserved : goal.loop-preserved
+loop-preserved c = grows_then c.loop.invariant (grows_marked c.round.ensures.marked)
 
-pub loop-left-smaller : goal.loop-left-smaller
-loop-left-smaller c = c.one_round-left.ensures.1
-
-pub loop-left-preserved : goal.loop-left-preserved
-loop-left-preserved c = grows_then c.loop-left.invariant c.one_round-left.ensures.0
-
-pub shape_of-scratch : goal.shape_of-scratch
-shape_of-scratch c = grows_size c.loop-left.invariant
-
-pub returns : goal.returns
-returns c = c.loop-left.invariant
+pub returns-else-not-round : goal.returns-else-not-round
+returns-else-not-round c = grows_then c.loop.invariant (grows_marked c.round.ensures.marked)

@@ -1,5 +1,5 @@
-use mathlib.Core.List.{[]}
 use Rattle.quick_depths.proofs.Growth.{space_of, grows_then, grows_marked, grows_front}
+use mathlib.Core.List.{[]}
 use Rattle.quick_depths.proofs.pass.Goals as goal
 
 pub returns : goal.returns

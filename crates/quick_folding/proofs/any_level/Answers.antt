@@ -1,17 +1,8 @@
-use Prim.Native.Nat.{ℕ}
-use mathlib.Core.Path.{sym, subst}
-use mathlib.Core.Bool.{Bool}
-use Rattle.tables.specs.Table.{weight_by, machine, events_of}
-use Rattle.rules.specs.Rules.{table_of}
-use Rattle.quick_folding.specs.State.{After, Tabled}
 use Rattle.quick_folding.proofs.Entering.{shape, appendable, bounds, given}
 use Rattle.quick_folding.proofs.Leaving.{renewable, takable, level-after}
 use Rattle.quick_folding.proofs.Tabling.{begun-at, grouped, level-tabled}
 use native.Mathlib.Omega.{arith}
 use Rattle.quick_folding.proofs.any_level.Goals as goal
-
-pub overflow_sub-more : goal.overflow_sub-more
-overflow_sub-more c = let b = bounds c.args.mask c.requires.0 c.requires.1 in omega (arith, b.1)
 
 pub append-requires : goal.append-requires
 append-requires c = appendable c.args.mask c.requires.0 c.requires.1
@@ -31,33 +22,20 @@ pub renew-rest-requires : goal.renew-rest-requires
 renew-rest-requires c = let a = c.args in
     let p = c.requires in
     let d = c.append.ensures in
-    renewable a.mask p.0 p.1 d (grouped a.mask p.0 p.1 p.3 d c.group-lost.ensures).1 p.2
+    (renewable a.mask p.0 p.1 d (grouped a.mask p.0 p.1 p.3 d c.group-lost.ensures.0).1 p.2, c.group-lost.ensures.1)
 
 pub take_new-kept-requires : goal.take_new-kept-requires
 take_new-kept-requires c = let a = c.args in
     let p = c.requires in
     let d = c.append.ensures in
-    takable a.mask p.0 p.1 d (grouped a.mask p.0 p.1 p.3 d c.group-lost.ensures).1 c.renew-rest.ensures
-
-pub shape_of-scratch : goal.shape_of-scratch
-shape_of-scratch c = let a = c.args in
-    let p = c.requires in
-    let d = c.append.ensures in
-    (level-after a.mask p.0 p.1 d (grouped a.mask p.0 p.1 p.3 d c.group-lost.ensures).1 c.renew-rest.ensures c.take_new-kept.ensures).apart.size
+    takable a.mask p.0 p.1 d (grouped a.mask p.0 p.1 p.3 d c.group-lost.ensures.0).1 c.renew-rest.ensures
 
 pub returns : goal.returns
 returns c = let a = c.args in
     let p = c.requires in
     let d = c.append.ensures in
-    let g = c.group-lost.ensures in
+    let g = c.group-lost.ensures.0 in
     let w = c.renew-rest.ensures in
     let t = c.take_new-kept.ensures in
     let e = c.standing.ensures in
-    let T = table_of a.n a.m a.start a.cells.now a.marks.now in
-    let made = level-after a.mask p.0 p.1 d (grouped a.mask p.0 p.1 p.3 d g).1 w t in (
-      subst (λ (x : ℕ). After (events_of (weight_by a.mask) T) (machine T) a.k a.level a.j a.scratch.now c.take_new-kept.new.scratch x c.standing.result.rest) (sym e.1)
-          (subst (λ (x : Bool). After (events_of (weight_by a.mask) T) (machine T) a.k a.level a.j a.scratch.now c.take_new-kept.new.scratch c.take_new-kept.result x) (sym e.3) made),
-      e.0,
-      e.2,
-      subst (λ (x : ℕ). Tabled a.mask T x c.standing.result.known c.standing.result.last c.take_new-kept.new.scratch) (sym e.1) (level-tabled a.mask p.0 p.1 p.3 d g w t e.4),
-    )
+    rw (e.1, e.3) (level-after a.mask p.0 p.1 d (grouped a.mask p.0 p.1 p.3 d g).1 w t, e.0, e.2, level-tabled a.mask p.0 p.1 p.3 d g w t e.4)

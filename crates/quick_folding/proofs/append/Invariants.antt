@@ -1,9 +1,5 @@
-use Prim.Native.Nat.{◌-◌, ◌≤◌}
 use Rattle.quick_folding.specs.Parts.{Appended}
 use Rattle.quick_folding.proofs.append.Given as goal
 
 abbrev pub invariant-loop-x : goal.invariant-loop-x
-invariant-loop-x l = (l.x ≤ l.count) × Appended l.n l.u l.i l.x l.initial.scratch l.scratch
-
-abbrev pub decreases-loop-x : goal.decreases-loop-x
-decreases-loop-x l = l.count - l.x
+invariant-loop-x l = Appended l.n l.u l.i l.x l.initial.scratch l.scratch

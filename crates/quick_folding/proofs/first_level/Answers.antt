@@ -24,11 +24,6 @@ any_level-made-requires c = let a = c.args in
     let n = c.standing-none.ensures in
     (clear_fits a.mask p.0 p.1 e, before_at n.0 n.1 (before-first a.mask p.0 p.1 e p.2 c.until-j.ensures), omega arith, λ z. absurd (false≢true z), tabled_none (tells_none (omega arith) n.4))
 
-pub shape_of-scratch : goal.shape_of-scratch
-shape_of-scratch c = let a = c.args in
-    let p = c.requires in
-    (first_made a.mask p.0 p.1 c.clear.ensures c.any_level-made.ensures.0).0.size
-
 pub returns : goal.returns
 returns c = let a = c.args in
     let p = c.requires in

@@ -1,9 +1,5 @@
-use Prim.Native.Nat.{◌-◌, ◌≤◌}
 use Rattle.quick_folding.specs.Parts.{fold_at, Valued}
 use Rattle.quick_folding.proofs.name_folds.Given as goal
 
 abbrev pub invariant-loop-q : goal.invariant-loop-q
-invariant-loop-q l = (l.q ≤ l.n) × Valued l.n l.q (fold_at l.n l.initial.scratch) l.initial.scratch l.scratch
-
-abbrev pub decreases-loop-q : goal.decreases-loop-q
-decreases-loop-q l = l.n - l.q
+invariant-loop-q l = Valued l.n l.q (fold_at l.n l.initial.scratch) l.initial.scratch l.scratch

@@ -20,9 +20,6 @@ any_level-requires c = let a = c.args in
     let l = next-above a.mask p.0 p.1 (omega (arith, p.2, p.3)) e in
     (p.0, before-next a.mask p.0 p.1 (omega (arith, p.2, p.3)) e p.2 c.until-j.ensures, next_fits a.mask p.0 p.1 (omega (arith, p.2, p.3)) e, λ z. (p.4 z, omega arith), p.5)
 
-pub shape_of-scratch : goal.shape_of-scratch
-shape_of-scratch c = c.any_level.ensures.0.apart.size
-
 pub returns : goal.returns
 returns c = let a = c.args in
     let p = c.requires in

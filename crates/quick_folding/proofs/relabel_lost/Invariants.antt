@@ -1,9 +1,5 @@
-use Prim.Native.Nat.{◌-◌, ◌≤◌}
 use Rattle.quick_folding.specs.Parts.{Losing}
 use Rattle.quick_folding.proofs.relabel_lost.Given as goal
 
 abbrev pub invariant-loop-x : goal.invariant-loop-x
-invariant-loop-x l = (l.x ≤ l.lost) × Losing l.n l.level l.x l.initial.scratch l.scratch
-
-abbrev pub decreases-loop-x : goal.decreases-loop-x
-decreases-loop-x l = l.lost - l.x
+invariant-loop-x l = Losing l.n l.level l.x l.initial.scratch l.scratch

@@ -1,16 +1,18 @@
 use native.Mathlib.Omega.{arith}
-use Rattle.rules.specs.Rules.{table_of, offset_of}
+use Rattle.std.proofs.lemmas.Result.{err_from_is_err_and}
+use Rattle.rules.specs.Rules.{lent, offset_of}
 use Rattle.reduction.proofs.Outcome.{fine-rows, work_refused, work-fine}
 use Rattle.reduction.proofs.work.Goals as goal
 
-pub overflow_cast-n : goal.overflow_cast-n
-overflow_cast-n c = let a = c.args in
-    record { fits = omega (arith, fine-rows a.way (offset_of a.offset) a.mask (table_of a.rows a.events a.start a.cells.now a.marks.now) (λ i. omega (arith, c.shared_slice_known-2-1.given i)) a.newcells.now a.newmarks.now a.scratch.now a.room c.check.ensures c.in-Fine.is) }
+pub returns-in_err-check : goal.returns-in_err-check
+returns-in_err-check c = let a = c.args in
+    let p = err_from_is_err_and c.from_residual.result c.from_residual.ensures.1 in
+    rw (p.1, p.2) (work_refused a.way (offset_of a.offset) a.mask (lent a.table) c.bytes.ensures a.newcells.now a.newmarks.now a.scratch.now a.room c.check.ensures _ c.in_err-check.was)
 
-pub returns-in-Refused : goal.returns-in-Refused
-returns-in-Refused c = let a = c.args in
-    work_refused a.way (offset_of a.offset) a.mask (table_of a.rows a.events a.start a.cells.now a.marks.now) (λ i. omega (arith, c.shared_slice_known-2-1.given i)) a.newcells.now a.newmarks.now a.scratch.now a.room c.check.ensures c.in-Refused.number c.in-Refused.place c.in-Refused.is
+pub overflow_cast-rows : goal.overflow_cast-rows
+overflow_cast-rows c = let a = c.args in
+    record { fits = omega (arith, fine-rows a.way (offset_of a.offset) a.mask (lent a.table) c.bytes.ensures a.newcells.now a.newmarks.now a.scratch.now a.room c.check.ensures c.in_ok-check.was) }
 
-pub returns-in-Fine : goal.returns-in-Fine
-returns-in-Fine c = let a = c.args in
-    work-fine a.way (offset_of a.offset) a.mask (table_of a.rows a.events a.start a.cells.now a.marks.now) (λ i. omega (arith, c.shared_slice_known-2-1.given i)) a.newcells.now a.newmarks.now a.scratch.now a.room c.check.ensures c.in-Fine.is c.rewrite-left.ensures c.needed.ensures
+pub returns : goal.returns
+returns c = let a = c.args in
+    work-fine a.way (offset_of a.offset) a.mask (lent a.table) c.bytes.ensures a.newcells.now a.newmarks.now a.scratch.now a.room c.check.ensures c.in_ok-check.was c.rewrite-left.ensures c.needed-used.ensures

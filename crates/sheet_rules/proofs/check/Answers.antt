@@ -1,18 +1,13 @@
-use native.Mathlib.Omega.{arith}
-use mathlib.Core.List.{[], ◌∷◌}
-use Rattle.rules.specs.Rules.{mask_rule, table_of}
-use Rattle.rules.proofs.First.{few_rows}
+use Rattle.std.proofs.lemmas.Result.{err_from_is_err_and}
+use Rattle.rules.specs.Rules.{lent}
 use Rattle.sheet_rules.proofs.Room.{verdict-refused, verdict-room}
 use Rattle.sheet_rules.proofs.check.Goals as goal
 
-pub overflow_cast-rows : goal.overflow_cast-rows
-overflow_cast-rows c = let a = c.args in
-    record { fits = omega (arith, few_rows (table_of a.rows a.events a.start a.cells.now a.marks.now) (mask_rule a.mask a.events ∷ []) c.winch.ensures c.check_masked.ensures c.in-Fine.is) }
+pub returns-in_err-check_masked : goal.returns-in_err-check_masked
+returns-in_err-check_masked c = let a = c.args in
+    let p = err_from_is_err_and c.from_residual.result c.from_residual.ensures.1 in
+    rw (p.1, p.2) (verdict-refused a.mask (lent a.table) a.list a.scratch c.winch.ensures c.check_masked.ensures _ c.in_err-check_masked.was)
 
-pub returns-in-Refused : goal.returns-in-Refused
-returns-in-Refused c = let a = c.args in
-    verdict-refused a.mask (table_of a.rows a.events a.start a.cells.now a.marks.now) a.list a.scratch c.winch.ensures c.check_masked.ensures c.in-Refused.number c.in-Refused.place c.in-Refused.is
-
-pub returns-in-Fine : goal.returns-in-Fine
-returns-in-Fine c = let a = c.args in
-    verdict-room a.mask (table_of a.rows a.events a.start a.cells.now a.marks.now) a.list a.scratch c.winch.ensures c.check_masked.ensures c.in-Fine.is c.check_room.ensures
+pub returns : goal.returns
+returns c = let a = c.args in
+    verdict-room a.mask (lent a.table) a.list a.scratch c.winch.ensures c.check_masked.ensures c.in_ok-check_masked.was c.check_room.ensures

@@ -1,7 +1,6 @@
-use mathlib.Core.Path.{◌≡◌}
 use mathlib.Core.List.{List}
-use Prim.Native.Nat.{ℕ, ◌-◌, ◌≤◌}
-use lib.ListN.{length, get_or}
+use Prim.Native.Nat.{ℕ}
+use lib.ListN.{get_or}
 use Rattle.text.specs.Text.{joined, Puts}
 use Rattle.lines.specs.Lines.{pair_line}
 use Rattle.sheet_text.proofs.put_entries.Given as goal
@@ -11,7 +10,4 @@ abbrev pub line : List ℕ → ℕ → List ℕ
 line list k = pair_line k (get_or list k 0)
 
 abbrev pub invariant-loop-k : goal.invariant-loop-k
-invariant-loop-k l = (l.k ≤ length l.list) × Puts l.initial.out l.at (joined l.k (line l.list)) l.out l.next × (length l.out ≡ length l.initial.out)
-
-abbrev pub decreases-loop-k : goal.decreases-loop-k
-decreases-loop-k l = length l.list - l.k
+invariant-loop-k l = Puts l.initial.out l.at (joined l.k (line l.list)) l.out l.next

@@ -1,10 +1,7 @@
-use Prim.Native.Nat.{ℕ, ◌-◌, ◌≤◌, ◌<◌}
+use Prim.Native.Nat.{ℕ, ◌<◌}
 use mathlib.Core.Path.{◌≡◌}
 use Rattle.signatures.specs.Signatures.{stamp_at, target_at}
 use Rattle.signatures.proofs.changed.Given as goal
 
 abbrev pub invariant-loop-a : goal.invariant-loop-a
-invariant-loop-a l = (l.a ≤ l.m) × ((b : ℕ) → b < l.a → stamp_at l.n l.scratch (target_at l.m l.cells l.q b) ≡ l.last → ⊥)
-
-abbrev pub decreases-loop-a : goal.decreases-loop-a
-decreases-loop-a l = l.m - l.a
+invariant-loop-a l = (b : ℕ) → b < l.a → stamp_at l.n l.scratch (target_at l.m l.cells l.q b) ≡ l.last → ⊥

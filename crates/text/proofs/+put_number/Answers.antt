@@ -7,9 +7,6 @@ pub returns-then-n-lt10 : goal.returns-then-n-lt10
 returns-then-n-lt10 t c = let n = c.args.n in
     rw (decimal-one n c.if-n-lt10.true) c.put_byte.ensures
 
-pub put_number-next-requires : goal.put_number-next-requires
-put_number-next-requires t c = (omega arith, tt)
-
 pub returns : goal.returns
 returns t c = let n = c.args.n in
     rw (decimal-more n (omega arith)) (puts_then c.put_number-next.ensures c.put_byte-2.ensures)

@@ -1,10 +1,6 @@
-use Prim.Native.Nat.{◌-◌, ◌≤◌}
 use Rattle.quick_folding.specs.Parts.{Valued}
 use Rattle.quick_folding.specs.Parting.{apart_at}
 use Rattle.quick_folding.proofs.parting.name_apart.Given as goal
 
 abbrev pub invariant-loop-q : goal.invariant-loop-q
-invariant-loop-q l = (l.q ≤ l.n) × Valued l.n l.q (apart_at l.n l.initial.scratch) l.initial.scratch l.scratch
-
-abbrev pub decreases-loop-q : goal.decreases-loop-q
-decreases-loop-q l = l.n - l.q
+invariant-loop-q l = Valued l.n l.q (apart_at l.n l.initial.scratch) l.initial.scratch l.scratch

@@ -10,9 +10,6 @@ use Rattle.quick_folding.proofs.parting.part_all.Goals as goal
 pub all_stay-plain-requires : goal.all_stay-plain-requires
 all_stay-plain-requires c = staying c.requires.0
 
-pub first_level-x-requires : goal.first_level-x-requires
-first_level-x-requires c = c.requires
-
 pub overflow_mul-n : goal.overflow_mul-n
 overflow_mul-n c = omega (arith, (shape c.requires.0).rows_fit)
 
@@ -32,19 +29,6 @@ part_level-x-requires c = let a = c.args in
     let f = c.first_level-x.ensures in
     let w = clear_apart a.mask p.0 f.0 f.1 f.2 c.clear.ensures in
     (fits_still p.0 (l.0.size ∙ w.size), l.1, l.2, c.loop-x-test.true, λ z. stays_of (table_of a.n a.m a.start a.cells.now a.marks.now) a.mask p.1 (c.all_stay-plain.ensures z), l.4)
-
-pub loop-x-smaller : goal.loop-x-smaller
-loop-x-smaller c = let e = c.part_level-x.ensures in
-    omega (arith, e.3, e.4)
-
-pub loop-x-preserved : goal.loop-x-preserved
-loop-x-preserved c = let e = c.part_level-x.ensures in
-    (apart_then c.loop-x.invariant.0 e.0, e.1, e.2, e.4, e.5)
-
-pub shape_of-scratch : goal.shape_of-scratch
-shape_of-scratch c = let a = c.args in
-    let f = c.first_level-x.ensures in
-    c.loop-x.invariant.0.size ∙ (clear_apart a.mask c.requires.0 f.0 f.1 f.2 c.clear.ensures).size
 
 pub returns : goal.returns
 returns c = let a = c.args in

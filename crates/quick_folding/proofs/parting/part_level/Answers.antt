@@ -5,9 +5,6 @@ use Rattle.quick_folding.proofs.Tabling.{tabled_none, tells_none}
 use native.Mathlib.Omega.{arith}
 use Rattle.quick_folding.proofs.parting.part_level.Goals as goal
 
-pub overflow_add-level : goal.overflow_add-level
-overflow_add-level c = omega (arith, c.requires.3, (shape c.requires.0).rows_fit)
-
 pub any_level-made-requires : goal.any_level-made-requires
 any_level-made-requires c = let a = c.args in
     let p = c.requires in
@@ -18,11 +15,6 @@ note_losses-requires c = let a = c.args in
     let p = c.requires in
     noting a.mask p.0 p.1 p.2 c.any_level-made.ensures.0 p.3
 
-pub shape_of-scratch-then-made : goal.shape_of-scratch-then-made
-shape_of-scratch-then-made c = let a = c.args in
-    let p = c.requires in
-    (noted-apart a.mask p.0 p.1 p.2 c.any_level-made.ensures.0 c.note_losses.ensures).size
-
 pub returns-then-made : goal.returns-then-made
 returns-then-made c = let a = c.args in
     let p = c.requires in
@@ -30,11 +22,6 @@ returns-then-made c = let a = c.args in
     let d = c.note_losses.ensures in
     let s = c.standing.ensures in
     (noted-apart a.mask p.0 p.1 p.2 e.0 d, parted_at s.2 s.1 (parted-rest a.mask p.0 p.1 p.2 e.0 d p.3 c.if-made.true), s.0 ∙ p.2, omega (arith, s.2, p.3), omega (arith, s.2), tabled_none (tells_none (omega arith) s.4))
-
-pub shape_of-scratch : goal.shape_of-scratch
-shape_of-scratch c = let a = c.args in
-    let p = c.requires in
-    (noted-apart a.mask p.0 p.1 p.2 c.any_level-made.ensures.0 c.note_losses.ensures).size
 
 pub returns : goal.returns
 returns c = let a = c.args in

@@ -1,6 +1,0 @@
-use native.Mathlib.Omega.{arith}
-use Rattle.pairs.proofs.Triangle.{triangle_bound}
-use Rattle.pairs.proofs.folds_at.Goals as goal
-
-pub overflow_add-result : goal.overflow_add-result
-overflow_add-result c = omega (arith, triangle_bound c.args.rows (omega arith))
