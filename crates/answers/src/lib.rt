@@ -25,10 +25,17 @@ fn put_four(answer: &mut [usize; 4], a: usize, b: usize, c: usize, d: usize)
     *answer = [a, b, c, d];
 }
 
+// A refusal by any number, also one that is no rule's.
+pub fn put_refused(answer: &mut [usize; 4], number: usize, place: usize)
+    ensures { answer.new ≡ four number place 0 0 }
+{
+    put_four(answer, number, place, 0, 0);
+}
+
 fn put_refusal(answer: &mut [usize; 4], refusal: Refusal)
     ensures { answer.new ≡ of_refusal refusal }
 {
-    put_four(answer, refusal.rule.number(), refusal.place, 0, 0);
+    put_refused(answer, refusal.rule.number(), refusal.place);
 }
 
 // Of a length, a number of tables or a number of rows.

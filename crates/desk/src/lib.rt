@@ -8,7 +8,7 @@ ghost use Rattle.image_text.specs.ImageText.{masked_text};
 ghost use Rattle.desk.specs.Printed.{reduction_text, printed};
 ghost use Rattle.listing.specs.Listing.{blank as blank_record};
 
-use image_text::TableText;
+use image_text::{SmallTable, TableText};
 use rules::Table;
 
 // A record to be written over.
@@ -64,8 +64,8 @@ struct Reduction {
 impl TableText for Reduction {
     ghost text = { λ r mask. reduction_text (offset_of r.offset) mask };
 
-    fn write(&self, mask: u32, table: Table<'_>, out: &mut [u8]) -> usize {
-        write_reduction(self.offset, mask, table, out)
+    fn write(&self, mask: u32, small: SmallTable<'_>, out: &mut [u8]) -> usize {
+        write_reduction(self.offset, mask, small.table, out)
     }
 }
 

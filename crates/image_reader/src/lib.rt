@@ -12,12 +12,14 @@ use image_sections::Shape;
 use images::Form;
 use rules::{Refusal, Rule};
 
-// Copies mark bytes from a place of the image on.
+// Copies mark bytes from a place of the image on. It is a loop, since `copy_from_slice` would ask a program in C for `memmove`.
 fn copy_marks(image: &[u8], at: usize, count: usize, marks: &mut [u8])
     requires { (at + count ≤ length image.now) × (count ≤ length marks.old) }
     ensures { marks.new ≡ over marks.old 0 (take count (drop at image.now)) }
 {
-    marks[..count].copy_from_slice(&image[at..at + count]);
+    for i in 0..count {
+        marks[i] = image[at + i];
+    }
 }
 
 // Copies targets from a place of the image on.

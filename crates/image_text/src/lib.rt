@@ -65,15 +65,22 @@ pub fn load(image: &[u8]) -> Loaded
     }
 }
 
+// A table that was read: it is valid, and has at most 128 rows.
+#[derive(Clone, Copy)]
+pub struct SmallTable<'a> {
+    pub table: Table<'a>,
+    ghost valid: { Valid (lent table) },
+    ghost few: { table.rows ≤ 128 },
+}
+
 // What tells one program from another: the text of a table that was read.
 pub trait TableText {
     // The text of a table under a mask that keeps its rule.
     ghost text: { Self → ℕ → Table → List ℕ };
 
     // Writes it, or the refusal of the mask.
-    fn write(&self, mask: u32, table: Table<'_>, out: &mut [u8]) -> usize
-        requires { Valid (lent table) × (table.rows ≤ 128) }
-        ensures { Puts out.old 0 (masked_text mask (text self.now mask) (lent table.entry)) out.new result };
+    fn write(&self, mask: u32, small: SmallTable<'_>, out: &mut [u8]) -> usize
+        ensures { Puts out.old 0 (masked_text mask (text self.now mask) (lent small.entry.table)) out.new result };
 }
 
 // Writes the text for an image.
@@ -102,7 +109,7 @@ pub fn write_image_text<T: TableText>(
                 cells: &cells[..count],
                 marks: &marks[..bytes],
             };
-            table_text.write(mask, table, out)
+            table_text.write(mask, SmallTable { table }, out)
         }
     }
 }

@@ -20,12 +20,14 @@ fn put_number(out: &mut [u8], at: usize, n: usize)
     out[at + 1] = (n / 256 % 256) as u8;
 }
 
-// Writes bytes from a place on.
+// Writes bytes from a place on. It is a loop, since `copy_from_slice` would ask a program in C for `memmove`.
 fn put_bytes(out: &mut [u8], at: usize, bytes: &[u8])
     requires { at + length bytes.now ≤ length out.old }
     ensures { out.new ≡ over out.old at bytes.now }
 {
-    out[at..at + bytes.len()].copy_from_slice(bytes);
+    for i in 0..bytes.len() {
+        out[at + i] = bytes[i];
+    }
 }
 
 // Writes a step at a place; one that is too far has no byte.

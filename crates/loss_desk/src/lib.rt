@@ -8,7 +8,7 @@ ghost use Rattle.image_text.specs.ImageText.{masked_text};
 ghost use Rattle.loss_desk.specs.Lines.{line_at};
 ghost use Rattle.loss_desk.specs.Printed.{text_of_losses, printed};
 
-use image_text::TableText;
+use image_text::{SmallTable, TableText};
 use rules::Table;
 
 // Writes the line of a row, if it folds into another.
@@ -85,8 +85,8 @@ struct GivenUp {
 impl TableText for GivenUp {
     ghost text = { λ l mask. text_of_losses (offset_of l.offset) mask };
 
-    fn write(&self, mask: u32, table: Table<'_>, out: &mut [u8]) -> usize {
-        write_losses(self.offset, mask, table, out)
+    fn write(&self, mask: u32, small: SmallTable<'_>, out: &mut [u8]) -> usize {
+        write_losses(self.offset, mask, small.table, out)
     }
 }
 

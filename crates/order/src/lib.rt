@@ -65,7 +65,8 @@ fn second_of(rows: u16, rows2: u16, k: usize) -> u16
     (k % rows2 as usize) as u16
 }
 
-// All pairs to which an event leads from pair k are met.
+// All pairs to which an event leads from pair k are met. It stands apart, so that the sweep over all pairs, which comes to few of a level, keeps to registers.
+#[inline(never)]
 fn spread_pair(
     rows: u16,
     events: u16,
@@ -163,7 +164,8 @@ fn told_at(cell: u16, level: u16) -> u16
     if cell % 4096 == level { cell / 4096 } else { 0 }
 }
 
-// What is told by the lowest event that leads from pair k to one of the next level of which anything is told.
+// What is told by the lowest event that leads from pair k to one of the next level of which anything is told. It stands apart as `spread_pair` does.
+#[inline(never)]
 fn first_told(
     rows: u16,
     events: u16,

@@ -7,7 +7,7 @@ ghost use Rattle.text.specs.Text.{filled, Puts};
 ghost use Rattle.image_text.specs.ImageText.{masked_text};
 ghost use Rattle.sheet_desk.specs.Printed.{text_of_sheet, printed};
 
-use image_text::TableText;
+use image_text::{SmallTable, TableText};
 use rules::Table;
 
 // Writes the text of a valid table of at most 128 rows, or the refusal of its mask.
@@ -36,8 +36,8 @@ struct Sheet;
 impl TableText for Sheet {
     ghost text = { λ _ mask. text_of_sheet mask };
 
-    fn write(&self, mask: u32, table: Table<'_>, out: &mut [u8]) -> usize {
-        write_table_text(mask, table, out)
+    fn write(&self, mask: u32, small: SmallTable<'_>, out: &mut [u8]) -> usize {
+        write_table_text(mask, small.table, out)
     }
 }
 

@@ -65,14 +65,20 @@ pub fn same(mask: u32, n: u16, m: u16, cells: &[u16], scratch: &[u16], q: u16, p
     true
 }
 
-// Whether an event leads row q to a row whose class changed at level `last`.
+// Whether an event leads row q to a row whose class changed at level `last`. Events in turn that lead to one row are looked at once, and it stands apart, so
+// that its loop keeps to registers.
+#[inline(never)]
 pub fn changed(n: u16, m: u16, cells: &[u16], scratch: &[u16], q: u16, last: usize) -> bool
     ensures { Tested result (Changed n m cells.now scratch.now last q) }
 {
+    let mut before = None;
     for a in 0..m {
         let target = scratch::target(cells, m, q, a);
-        if scratch::cell(scratch, 5 * n as usize + target as usize) as usize == last {
-            return true;
+        if before != Some(target) {
+            if scratch::cell(scratch, 5 * n as usize + target as usize) as usize == last {
+                return true;
+            }
+            before = Some(target);
         }
     }
     false

@@ -16,9 +16,6 @@ slice_bounds-marks-end g c = marks_part c.load-read.ensures c.in-Ok.is
 pub slice_bounds-table-end-in-Ok : goal.slice_bounds-table-end-in-Ok
 slice_bounds-table-end-in-Ok g c = marks_length c.load-read.ensures c.in-Ok.is
 
-pub write-requires : goal.write-requires
-write-requires g c = taken-valid c.load-read.ensures c.in-Ok.is
-
 pub returns-in-Err : goal.returns-in-Err
 returns-in-Err g c = let a = c.args in
     let text = masked_text a.mask (g.T.TableText.text a.table_text.now a.mask) in
@@ -28,3 +25,8 @@ pub returns-in-Ok : goal.returns-in-Ok
 returns-in-Ok g c = let a = c.args in
     let text = masked_text a.mask (g.T.TableText.text a.table_text.now a.mask) in
     puts_as (sym (taken-text c.load-read.ensures c.in-Ok.is text)) c.write.ensures
+
+pub invariant_of-write : goal.invariant_of-write
+invariant_of-write g c =
+    let v = taken-valid c.load-read.ensures c.in-Ok.is in
+    record { valid = v.0; few = v.1 }

@@ -1,17 +1,17 @@
-use mathlib.Core.Path.{◌≡◌, sym, ap, ap₂, ◌∙◌}
-use mathlib.Core.List.{List, ◌++◌, append_assoc}
-use Prim.Native.Nat.{ℕ, ◌+◌, ◌-◌}
+use mathlib.Core.Path.{sym, ◌∙◌}
 use native.Mathlib.Omega.{arith}
-use lib.ListN.{length, take, drop}
-use lib.Seq.{drop-drop}
-use Rattle.tables.specs.Lists.{over}
+use native.Mathlib.Numerals.{add-one}
+use Rattle.tables.proofs.Over.{over_none, over-next, over-all}
 use Rattle.image_writer.proofs.put_bytes.Goals as goal
 
+pub loop-i-init : goal.loop-i-init
+loop-i-init c = sym (over_none c.args.out.now c.args.at)
+
+pub loop-i-preserved : goal.loop-i-preserved
+loop-i-preserved c = let a = c.args in
+    let l = c.loop-i in
+    rw (add-one, l.invariant) (over-next a.out.now a.at a.bytes.now l.i (omega arith) (omega arith))
+
 pub returns : goal.returns
-unfolding over
-returns c = let out = c.args.out.now in
-    let at = c.args.at in
-    let end = at + length c.args.bytes.now in
-    let all : at + (end - at) ≡ end = omega arith in
-    ap₂ (λ (s t : List ℕ). take at out ++ (s ++ t)) c.copy_from_slice.ensures.after (drop-drop (end - at) at out ∙ ap (λ (k : ℕ). drop k out) all)
-    ∙ sym (append_assoc (take at out) c.args.bytes.now (drop end out))
+returns c = let a = c.args in
+    c.loop-i.invariant ∙ over-all a.out.now a.at a.bytes.now c.loop-i.i (omega arith)
